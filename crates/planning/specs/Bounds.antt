@@ -1,0 +1,39 @@
+-- The counts and ranges of document 01, each under one name.
+-- Assumes nothing.
+use Prim.Native.Nat.{ℕ, _*_}
+
+-- "Engines number 1 to 12"
+abbrev pub mostEngines : ℕ
+mostEngines = 12
+
+-- "deliveries 0 to 64"
+abbrev pub mostDeliveries : ℕ
+mostDeliveries = 64
+
+-- "a zeroed table of 768 numbers": a cell for every delivery and engine that a plan may have
+abbrev pub mostCells : ℕ
+mostCells = mostDeliveries * mostEngines
+
+-- "MINUTES is 1 to 10,080."
+abbrev pub mostMinutes : ℕ
+mostMinutes = 10_080
+
+-- "TRIES, the allowance, is 0 to 1,000,000,000."
+abbrev pub mostTries : ℕ
+mostTries = 1_000_000_000
+
+-- "WATTS 0 to 5,000,000"
+abbrev pub mostWatts : ℕ
+mostWatts = 5_000_000
+
+-- "FUEL .. 0 to 1,000,000,000."
+abbrev pub mostFuel : ℕ
+mostFuel = 1_000_000_000
+
+-- "ENERGY 1 to 1,000,000,000 Wh", and a spare lookup's "amount of 1 to 1,000,000,000"
+abbrev pub mostEnergy : ℕ
+mostEnergy = 1_000_000_000
+
+-- "LIMIT .. 1 to 12."
+abbrev pub mostLimit : ℕ
+mostLimit = 12

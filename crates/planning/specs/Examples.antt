@@ -1,0 +1,4 @@
+-- Plans with their whole answers, evaluated from the definitions.
+pub mod Discerning
+pub mod Evaluation
+pub mod Starred

@@ -1,0 +1,11 @@
+pub mod Bounds
+pub mod Capacity
+pub mod Cutting
+pub mod Examples
+pub mod Modes
+pub mod Numbers
+pub mod Plan
+pub mod Refusals
+pub mod Search
+pub mod SpareLookup
+pub mod Sum

@@ -1,0 +1,46 @@
+-- Refusals (document 01, "Turned down"): the number of each fault, and checks in an order.
+-- Assumes nothing.
+use Prim.Native.Nat.{ℕ, zero, suc, _+_}
+use mathlib.Core.Bool.{Bool, true, false}
+use mathlib.Core.List.{List, [], _∷_}
+use mathlib.Core.Option.{Option, none, some}
+use Rattle.planning.specs.declared.Fault.{Fault}
+use Rattle.planning.specs.declared.Fault.the-variants.{Size, Grammar, Fields, Kind, Name, Value, Count, NoEngine, Space}
+use Rattle.planning.specs.declared.Refusal.{Refusal}
+
+-- the column "No." of the table, by its column "When"
+unfoldable pub numberOf : Fault → ℕ
+-- "file empty or above 32,768 bytes"
+numberOf Size = 1
+-- "record breaks RFC 4180"
+numberOf Grammar = 2
+-- "not four fields; on numbers: paired lists differ in length"
+numberOf Fields = 3
+-- "first field unknown; record 1 no plan; a plan later"
+numberOf Kind = 4
+-- "name against the rule above"
+numberOf Name = 5
+-- "MODE or a number against its form or range"
+numberOf Value = 6
+-- "a 13th engine or 65th delivery"
+numberOf Count = 7
+-- "no engine"
+numberOf NoEngine = 8
+-- "lent table of the wrong length, or output longer than the lent space"
+numberOf Space = 9
+
+-- one check: a fault at a record, where the test fails
+unfoldable pub check : Bool → Fault → (place : ℕ) → Option Refusal
+check true fault place = none
+check false fault place = some (record { fault = fault; place = place })
+
+-- the first fault of two checks in order
+infixr 20 _then_
+unfoldable pub _then_ : Option Refusal → Option Refusal → Option Refusal
+_then_ (some refusal) later = some refusal
+_then_ none later = later
+
+-- the first fault among the members of a list, of which the first has the record number r
+unfoldable pub checkEach : {A : Type 0} → (ℕ → A → Option Refusal) → (r : ℕ) → List A → Option Refusal
+checkEach one r [] = none
+checkEach one r (x ∷ xs) = one r x then checkEach one (r + 1) xs

@@ -1,0 +1,53 @@
+// The types that the planner's answers and contracts speak of. Their meaning is given in specs/; there are no functions here.
+
+// MODE of a plan: search the minutes it gives, or look for the shortest time.
+pub enum Mode {
+    Fixed,
+    Shortest,
+}
+
+// An answer is one of found, none and stopped ..
+pub enum Outcome {
+    Found,
+    None,
+    Stopped,
+}
+
+// .. carried with its minutes and tries.
+pub struct Answer {
+    pub outcome: Outcome,
+    pub minutes: u64,
+    pub tries: u64,
+}
+
+// Why a call is turned down: the rows 1 to 9 of document 01's table, in its order. `numberOf` in specs/ gives the number.
+pub enum Fault {
+    Size,
+    Grammar,
+    Fields,
+    Kind,
+    Name,
+    Value,
+    Count,
+    NoEngine,
+    Space,
+}
+
+// A refusal: the fault, and its place: the record at fault counted from 1, or 0.
+pub struct Refusal {
+    pub fault: Fault,
+    pub place: u64,
+}
+
+// What the allocation on numbers returns.
+pub enum Allocation {
+    Answered(Answer),
+    Refused(Refusal),
+}
+
+// What the spare lookup returns: an engine that has the amount, counted from 0; that none has it; or a refusal.
+pub enum Lookup {
+    Engine(usize),
+    Nowhere,
+    Refused(Refusal),
+}
