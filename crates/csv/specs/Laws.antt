@@ -1,0 +1,7 @@
+-- The laws of the definitions, from single bytes up to files. Assumes nothing.
+pub mod Classes
+pub mod Fields
+pub mod Quotes
+pub mod Records
+pub mod Files
+pub mod Writer
