@@ -1,0 +1,5 @@
+-- Files with what the planner prints for them, evaluated from the definitions.
+pub mod Calls
+pub mod Evaluation
+pub mod Printed
+pub mod TurnedDown

@@ -1,0 +1,81 @@
+-- Calls with a file: what is returned and what the lent tables and the output then hold, by evaluation. Row 9 of document 01's
+-- table "Turned down" is here, and row 1 for a file above 32,768 bytes.
+-- Assumes nothing.
+use mathlib.Core.Path.{_≡_, refl}
+use Prim.Native.Nat.{ℕ}
+use mathlib.Core.List.{List, [], _∷_, _++_}
+use lib.ListN.{replicate}
+use Rattle.csv.specs.Text.{ascii}
+use Rattle.planning.specs.declared.Fault.{Fault}
+use Rattle.planning.specs.declared.Fault.the-variants.{Size, NoEngine, Space}
+use Rattle.planning.specs.declared.Outcome.the-variants.{Found, None, Stopped}
+use Rattle.planfile.specs.declared.FileAnswer.the-variants.{Printed, Refused}
+use Rattle.planfile.specs.Examples.Evaluation.{CallExample, calledAll}
+use Rattle.planfile.specs.FileCall.{FileCall}
+
+-- lent lists of those lengths, filled with a pattern
+lent : (file : List ℕ) → (table spare output : ℕ) → FileCall
+lent file table spare output =
+    record { file = file; table = replicate table 7; spare = replicate spare 8; output = replicate output 9 }
+
+printedInput : List ℕ
+printedInput =
+    ascii
+    "plan,fixed,60,100\r\nengine,E1,3000,1000000000\r\nengine,E2,5000,1000000000\r\ndelivery,D1,5000,2\r\ndelivery,D2,3000,2\r\n"
+
+-- a call that is turned down, at record 0: nothing lent is changed
+turnedDown : Fault → FileCall → CallExample
+turnedDown fault call =
+    record {
+      given = call;
+      answer = Refused (record { fault = fault; place = 0 });
+      table = call .table;
+      spare = call .spare;
+      output = call .output;
+    }
+
+pub calls : List CallExample
+unfolding lent printedInput turnedDown ascii
+calls =
+    -- found fills from the front and keeps the others
+    record {
+      given = lent printedInput 768 12 80;
+      answer = Printed (record { outcome = Found; minutes = 60; tries = 2 }) 68;
+      table = 3000 ∷ 2000 ∷ 0 ∷ 3000 ∷ replicate 764 7;
+      spare = 0 ∷ 0 ∷ replicate 10 8;
+      output = ascii "found,60,2,3\r\npiece,D1,E1,3000\r\npiece,D1,E2,2000\r\npiece,D2,E2,3000\r\n" ++ replicate 12 9;
+    }
+    -- none and stopped write only the print
+    ∷ record {
+      given = lent (ascii "plan,fixed,60,100\r\nengine,E1,5,5\r\ndelivery,D1,6,1") 768 12 13;
+      answer = Printed (record { outcome = None; minutes = 60; tries = 0 }) 13;
+      table = replicate 768 7;
+      spare = replicate 12 8;
+      output = ascii "none,60,0,0\r\n";
+    }
+    ∷ record {
+      given = lent (ascii "plan,fixed,60,0\r\nengine,E1,5,5\r\ndelivery,D1,5,1") 768 12 20;
+      answer = Printed (record { outcome = Stopped; minutes = 60; tries = 0 }) 16;
+      table = replicate 768 7;
+      spare = replicate 12 8;
+      output = ascii "stopped,60,0,0\r\n" ++ replicate 4 9;
+    }
+    -- 9: 10 bytes lent for a plan's output; one byte too few; none too has to fit
+    ∷ turnedDown Space (lent printedInput 768 12 10)
+    ∷ turnedDown Space (lent printedInput 768 12 67)
+    ∷ turnedDown Space (lent (ascii "plan,fixed,60,100\r\nengine,E1,5,5\r\ndelivery,D1,6,1") 768 12 12)
+    -- 9: lent tables of the wrong length
+    ∷ turnedDown Space (lent printedInput 767 12 80)
+    ∷ turnedDown Space (lent printedInput 769 12 80)
+    ∷ turnedDown Space (lent printedInput 4 2 80)
+    ∷ turnedDown Space (lent printedInput 768 11 80)
+    ∷ turnedDown Space (lent printedInput 768 13 80)
+    -- 9 comes after 8
+    ∷ turnedDown NoEngine (lent (ascii "plan,fixed,60,9") 1 1 0)
+    -- 1: a file above 32,768 bytes
+    ∷ turnedDown Size (lent (replicate 32769 0x61) 768 12 80)
+    ∷ []
+
+pub calls-hold : calledAll calls ≡ calls
+unfolding calledAll calls
+calls-hold = refl

@@ -1,0 +1,56 @@
+-- What the definitions make of a file, from input bytes to output bytes, by evaluation.
+-- Assumes nothing.
+use Prim.Native.Nat.{ℕ}
+use Prim.Native.String.{String}
+use mathlib.Core.List.{List, map}
+use Rattle.csv.specs.Fields.{fieldValues}
+use Rattle.csv.specs.Records.{records}
+use Rattle.csv.specs.Text.{ascii}
+use Rattle.csv.specs.Writer.{writtenFile}
+use Rattle.planning.specs.Examples.Evaluation.{evaluated}
+use Rattle.planning.specs.Modes.{outcomeOf, triesOf, answerOf, tableBy, tableAfter}
+use Rattle.planning.specs.Numbers.{within}
+use Rattle.planning.specs.Refusals.{numberOf as faultNumber}
+use Rattle.planfile.specs.declared.FileAnswer.{FileAnswer}
+use Rattle.planfile.specs.FileCall.{FileCall, printed, readCall, returnedBy, returned, onExit, tableOnExit, spareOnExit, outputOnExit, programBy, programPrint}
+use Rattle.planfile.specs.FilePlan.{planOf}
+use Rattle.planfile.specs.Numerals.{valueBehind, allDigits, numberOf, decimalWithin, decimal}
+use Rattle.planfile.specs.Print.{wordOf, pieceLine, rowLines, pieceLines, linesOf, answerLines, printOf, refusalPrint}
+use Rattle.planfile.specs.Reading.{_>>=_, fault, require, same, fourOf, unlessBroken, fieldsOf, modeBy, readMode, numberBy, readNumber, nameBytes, soundName, unused, readPlan, readEngine, readDelivery, recordBy, readRecord, readRecords, readTexts, readFile}
+
+-- a file and what the program prints for it
+pub record Example : Type 0 where
+  pub file : List ℕ
+  pub print : List ℕ
+
+unfoldable pub example : (file print : String) → Example
+unfolding ascii
+example file print = record { file = ascii file; print = ascii print }
+
+-- each example of a list is what the definitions make of its file
+unfoldable pub printedAll : List Example → List Example
+unfolding evaluated fieldValues records writtenFile outcomeOf triesOf within faultNumber printed programBy programPrint planOf valueBehind allDigits numberOf decimalWithin decimal wordOf pieceLine rowLines pieceLines linesOf answerLines printOf refusalPrint _>>=_ fault require same fourOf unlessBroken fieldsOf modeBy readMode numberBy readNumber nameBytes soundName unused readPlan readEngine readDelivery recordBy readRecord readRecords readTexts readFile ascii
+printedAll examples = map (λ (e : Example). record { file = e .file; print = programPrint (e .file) }) examples
+
+-- a call with a file, what it returns, and what the lent tables and the output then hold
+pub record CallExample : Type 0 where
+  pub given : FileCall
+  pub answer : FileAnswer
+  pub table : List ℕ
+  pub spare : List ℕ
+  pub output : List ℕ
+
+-- each example of a list is what the definitions make of its call
+unfoldable pub calledAll : List CallExample → List CallExample
+unfolding printedAll answerOf tableBy tableAfter readCall returnedBy returned onExit tableOnExit spareOnExit outputOnExit
+calledAll examples =
+    map
+    (λ (e : CallExample).
+    record {
+      given = e .given;
+      answer = returned (e .given);
+      table = tableOnExit (e .given);
+      spare = spareOnExit (e .given);
+      output = outputOnExit (e .given);
+    })
+    examples

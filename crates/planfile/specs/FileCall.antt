@@ -1,0 +1,69 @@
+-- The call with a file (document 01, "Turned down" and "The planner's print"): what it returns, and what the lent tables and the
+-- output hold afterwards.
+-- Assumes nothing.
+use Prim.Native.Nat.{ℕ}
+use mathlib.Core.Bool.{Bool, true, false, _&&_}
+use mathlib.Core.List.{List}
+use lib.ListN.{length}
+use lib.Dec.{leb, eqb}
+use Rattle.planning.specs.declared.Fault.the-variants.{Space}
+use Rattle.planning.specs.declared.Refusal.{Refusal}
+use Rattle.planning.specs.Bounds.{mostCells, mostEngines}
+use Rattle.planning.specs.Modes.{Planned, planned, answerOf, tableAfter, sparesAfter, overFront}
+use Rattle.planfile.specs.declared.FileAnswer.{FileAnswer}
+use Rattle.planfile.specs.declared.FileAnswer.the-variants.{Printed, Refused}
+use Rattle.planfile.specs.FilePlan.{FilePlan, planOf}
+use Rattle.planfile.specs.Print.{printOf, refusalPrint}
+use Rattle.planfile.specs.Reading.{Read, refused, accepted, _>>=_, require, readFile}
+
+-- "A call with a file is lent exactly 768 and 12 numbers", and an output
+pub record FileCall : Type 0 where
+  pub file : List ℕ
+  pub table : List ℕ
+  pub spare : List ℕ
+  pub output : List ℕ
+
+-- the print of the plan's answer
+unfoldable pub printed : FilePlan → List ℕ
+printed f = printOf f (planned (planOf f))
+
+-- "9 comes after 8, before anything is written.": "lent table of the wrong length, or output longer than the lent space"
+unfoldable pub readCall : FileCall → Read FilePlan
+readCall call = do
+  f ← readFile (call .file)
+  _ ← require (eqb (length (call .table)) mostCells) Space 0
+  _ ← require (eqb (length (call .spare)) mostEngines) Space 0
+  _ ← require (leb (length (printed f)) (length (call .output))) Space 0
+  accepted f
+
+-- what the call returns: the answer with the print's length, or "its number and the record"
+unfoldable pub returnedBy : Read FilePlan → FileAnswer
+returnedBy (refused refusal) = Refused refusal
+returnedBy (accepted f) = Printed (answerOf (planned (planOf f))) (length (printed f))
+
+unfoldable pub returned : FileCall → FileAnswer
+returned call = returnedBy (readCall call)
+
+-- the lent lists afterwards: "fills from the front what its plan has, and keeps the others"; each refusal "changes nothing lent"
+unfoldable pub onExit : Read FilePlan → (lent : List ℕ) → (FilePlan → List ℕ) → List ℕ
+onExit (refused refusal) lent changed = lent
+onExit (accepted f) lent changed = changed f
+
+unfoldable pub tableOnExit : FileCall → List ℕ
+tableOnExit call = onExit (readCall call) (call .table) (λ f. tableAfter (planOf f) (call .table))
+
+unfoldable pub spareOnExit : FileCall → List ℕ
+spareOnExit call = onExit (readCall call) (call .spare) (λ f. sparesAfter (planOf f) (call .spare))
+
+-- "The print stands at the front of the lent output; bytes behind it are kept."
+unfoldable pub outputOnExit : FileCall → List ℕ
+outputOnExit call = onExit (readCall call) (call .output) (λ f. overFront (printed f) (call .output))
+
+-- "Program `planner` reads standard input and prints CSV": all that it prints. Its own tables and output have the lengths
+-- asked for and space for every print, so 9 has no part in it.
+unfoldable pub programBy : Read FilePlan → List ℕ
+programBy (refused refusal) = refusalPrint refusal
+programBy (accepted f) = printed f
+
+unfoldable pub programPrint : (input : List ℕ) → List ℕ
+programPrint input = programBy (readFile input)

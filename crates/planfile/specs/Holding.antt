@@ -1,0 +1,76 @@
+-- What it is for bytes to hold a plan (document 01, "The file"), apart from any reader: no order of checks in it.
+-- Assumes nothing.
+use mathlib.Core.Path.{_≡_}
+use Prim.Native.Nat.{ℕ}
+use mathlib.Core.List.{List, [], _∷_}
+use lib.ListN.{length}
+use Rattle.csv.specs.Grammar.{File}
+use Rattle.csv.specs.Text.{ascii}
+use Rattle.planning.specs.declared.Mode.{Mode}
+use Rattle.planning.specs.declared.Mode.the-variants.{Fixed, Shortest}
+use Rattle.planning.specs.Plan.{All, Within, InRange}
+use Rattle.planfile.specs.Bounds.{mostBytes, mostNameBytes, leastNameByte, mostNameByte}
+use Rattle.planfile.specs.FilePlan.{FilePlan, NamedEngine, NamedDelivery, planOf, engineNames, deliveryNames}
+use Rattle.planfile.specs.Numerals.{Numeral}
+
+-- "MODE is `fixed` or `shortest`."
+unfoldable pub modeWord : Mode → List ℕ
+modeWord Fixed = ascii "fixed"
+modeWord Shortest = ascii "shortest"
+
+-- "`plan,MODE,MINUTES,TRIES` is record 1": the values of its fields
+pub data PlanRecord : List (List ℕ) → Mode → (minutes allowance : ℕ) → Type 0 where
+  plan-record : {mode : Mode} {minutes allowance : ℕ} {m t : List ℕ}
+      → Numeral m minutes
+      → Numeral t allowance
+      → PlanRecord (ascii "plan" ∷ modeWord mode ∷ m ∷ t ∷ []) mode minutes allowance
+
+-- the other records: "`engine,NAME,WATTS,FUEL`" and "`delivery,NAME,ENERGY,LIMIT`", "in any mixture", with the engines and the
+-- deliveries among them in file order
+pub data Mixture : List (List (List ℕ)) → List NamedEngine → List NamedDelivery → Type 0 where
+  mixture-end : Mixture [] [] []
+  mixture-engine : {name w f : List ℕ} {watts fuel : ℕ} {records : List (List (List ℕ))} {engines : List NamedEngine} {deliveries : List NamedDelivery}
+      → Numeral w watts
+      → Numeral f fuel
+      → Mixture records engines deliveries
+      → Mixture
+      ((ascii "engine" ∷ name ∷ w ∷ f ∷ []) ∷ records)
+      (record { name = name; engine = record { watts = watts; fuel = fuel } } ∷ engines)
+      deliveries
+  mixture-delivery : {name e l : List ℕ} {energy limit : ℕ} {records : List (List (List ℕ))} {engines : List NamedEngine} {deliveries : List NamedDelivery}
+      → Numeral e energy
+      → Numeral l limit
+      → Mixture records engines deliveries
+      → Mixture
+      ((ascii "delivery" ∷ name ∷ e ∷ l ∷ []) ∷ records)
+      engines
+      (record { name = name; delivery = record { energy = energy; limit = limit } } ∷ deliveries)
+
+-- "A name has 1 to 16 bytes, each hex 20 to 7E"
+pub record SoundName (name : List ℕ) : Type 0 where
+  pub size : Within 1 mostNameBytes (length name)
+  pub bytes : All (Within leastNameByte mostNameByte) name
+
+-- "used once": no name stands twice in a list, compared by value
+abbrev pub Unlike : List (List ℕ) → Type 0
+Unlike [] = Unit {0}
+Unlike (name ∷ names) = All (λ other. name ≡ other → ⊥) names × Unlike names
+
+-- the bytes hold the plan f
+pub record Holds (bytes : List ℕ) (f : FilePlan) : Type 0 where
+  -- not "empty or above 32,768 bytes"
+  pub size : Within 1 mostBytes (length bytes)
+  -- "Records end in CR LF; the last one may lack it. Quoted fields mean what RFC 4180 says": the values of all fields
+  pub first : List (List ℕ)
+  pub others : List (List (List ℕ))
+  pub file : File bytes (first ∷ others)
+  -- the records' contents, each of "exactly four fields"
+  pub planRecord : PlanRecord first (f .mode) (f .minutes) (f .allowance)
+  pub mixture : Mixture others (f .engines) (f .deliveries)
+  -- names
+  pub enginesNamed : All SoundName (engineNames f)
+  pub deliveriesNamed : All SoundName (deliveryNames f)
+  pub enginesUnlike : Unlike (engineNames f)
+  pub deliveriesUnlike : Unlike (deliveryNames f)
+  -- counts and ranges
+  pub inRange : InRange (planOf f)

@@ -1,0 +1,60 @@
+-- The planner's print (document 01, "The planner's print"): the exact bytes for every answer, and for a refusal.
+-- Assumes nothing.
+use Prim.Native.Nat.{ℕ, zero, suc}
+use mathlib.Core.List.{List, [], _∷_, _++_}
+use lib.ListN.{length}
+use Rattle.csv.specs.Text.{ascii}
+use Rattle.csv.specs.Writer.{writtenFile}
+use Rattle.planning.specs.declared.Outcome.{Outcome}
+use Rattle.planning.specs.declared.Outcome.the-variants.{Found, None, Stopped}
+use Rattle.planning.specs.declared.Refusal.{Refusal}
+use Rattle.planning.specs.Modes.{Planned, outcomeOf, triesOf, pieceIn}
+use Rattle.planning.specs.Refusals.{numberOf}
+use Rattle.planning.specs.Search.{Result, found, none, stopped}
+use Rattle.planfile.specs.FilePlan.{FilePlan, NamedEngine, NamedDelivery}
+use Rattle.planfile.specs.Numerals.{decimal}
+
+-- a line by the values of its fields
+abbrev pub Line : Type 0
+Line = List (List ℕ)
+
+-- the word of an answer
+unfoldable pub wordOf : Outcome → List ℕ
+wordOf Found = ascii "found"
+wordOf None = ascii "none"
+wordOf Stopped = ascii "stopped"
+
+-- "delivery, engine, Wh", for a piece above 0
+unfoldable pub pieceLine : (delivery engine : List ℕ) → (piece : ℕ) → List Line
+pieceLine delivery engine zero = []
+pieceLine delivery engine (suc n) = (ascii "piece" ∷ delivery ∷ engine ∷ decimal (suc n) ∷ []) ∷ []
+
+-- a delivery's lines, in file order of engines; x i is its piece of engine i
+unfoldable pub rowLines : (delivery : List ℕ) → List NamedEngine → (x : ℕ → ℕ) → List Line
+rowLines delivery [] x = []
+rowLines delivery (e ∷ es) x = pieceLine delivery (e .name) (x 0) ++ rowLines delivery es (λ i. x (suc i))
+
+-- "in file order of deliveries, then engines"
+unfoldable pub pieceLines : List NamedDelivery → List NamedEngine → (x : ℕ → ℕ → ℕ) → List Line
+pieceLines [] es x = []
+pieceLines (d ∷ ds) es x = rowLines (d .name) es (λ i. x 0 i) ++ pieceLines ds es (λ p i. x (suc p) i)
+
+-- the lines behind line 1
+unfoldable pub linesOf : FilePlan → Result → List Line
+linesOf f (found tries table) = pieceLines (f .deliveries) (f .engines) (λ p i. pieceIn (length (f .engines)) table p i)
+linesOf f (none tries) = []
+linesOf f (stopped tries) = []
+
+-- "Line 1: answer, minutes, tries, pieces."
+unfoldable pub answerLines : (minutes : ℕ) → Result → (pieces : List Line) → List Line
+answerLines minutes result pieces =
+    (wordOf (outcomeOf result) ∷ decimal minutes ∷ decimal (triesOf result) ∷ decimal (length pieces) ∷ []) ∷ pieces
+
+-- the print of an answer, "every line CR LF"; "A name is quoted only if it holds a quote or comma."
+unfoldable pub printOf : FilePlan → Planned → List ℕ
+printOf f a = writtenFile (answerLines (a .minutes) (a .result) (linesOf f (a .result)))
+
+-- "`refused,NUMBER,RECORD,0`", which the program prints
+unfoldable pub refusalPrint : Refusal → List ℕ
+refusalPrint refusal =
+    writtenFile ((ascii "refused" ∷ decimal (numberOf (refusal .fault)) ∷ decimal (refusal .place) ∷ ascii "0" ∷ []) ∷ [])
