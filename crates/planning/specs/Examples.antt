@@ -1,4 +1,5 @@
 -- Plans with their whole answers, evaluated from the definitions.
+pub mod Calls
 pub mod Discerning
 pub mod Evaluation
 pub mod Starred
