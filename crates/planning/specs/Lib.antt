@@ -2,6 +2,7 @@ pub mod Bounds
 pub mod Capacity
 pub mod Cutting
 pub mod Examples
+pub mod Laws
 pub mod Modes
 pub mod Numbers
 pub mod Plan

@@ -13,12 +13,16 @@ use Rattle.planning.specs.declared.Outcome.{Outcome}
 use Rattle.planning.specs.declared.Outcome.the-variants.{Found, None, Stopped}
 use Rattle.planning.specs.Capacity.{capacities}
 use Rattle.planning.specs.Plan.{Plan, energies, limits}
-use Rattle.planning.specs.Search.{Result, found, none, stopped, upTo, searched, at, cell}
+use Rattle.planning.specs.Search.{Result, found, none, stopped, upTo, unlimited, searched, at, cell}
 use Rattle.planning.specs.Sum.{sum}
 
 -- the search for T minutes; "Each search has the full allowance"
 unfoldable pub searchAt : Plan → ℕ → Result
 searchAt plan T = searched (capacities plan T) (energies plan) (limits plan) (upTo (plan .allowance))
+
+-- the same search without an allowance: what it takes when no try is one too many
+unfoldable pub unlimitedAt : Plan → ℕ → Result
+unlimitedAt plan T = searched (capacities plan T) (energies plan) (limits plan) unlimited
 
 -- a search that is answered, and its minutes
 pub record Planned : Type 0 where
@@ -34,6 +38,10 @@ byOutcome (found tries table) ifFound ifNone ifStopped = ifFound tries
 byOutcome (none tries) ifFound ifNone ifStopped = ifNone tries
 byOutcome (stopped tries) ifFound ifNone ifStopped = ifStopped tries
 
+-- "T = (low + high) / 2 rounded down"
+abbrev pub middle : (low high : ℕ) → ℕ
+middle low high = (low + high) / 2
+
 -- "while high − low is above 1, search T = (low + high) / 2 rounded down; found sets high, none sets low, stopped answers
 -- stopped with that T. The answer is the search at high." On a bound for the number of turns: high - low falls with each.
 unfoldable pub whileAbove : {A : Type 0} → Bool → (turn answer : ℕ → A) → A
@@ -46,10 +54,10 @@ bisect (suc bound) plan low high =
     whileAbove
     (ltb 1 (high - low))
     (λ _. byOutcome
-    (searchAt plan ((low + high) / 2))
-    (λ _. bisect bound plan low ((low + high) / 2))
-    (λ _. bisect bound plan ((low + high) / 2) high)
-    (λ _. plannedAt plan ((low + high) / 2)))
+    (searchAt plan (middle low high))
+    (λ _. bisect bound plan low (middle low high))
+    (λ _. bisect bound plan (middle low high) high)
+    (λ _. plannedAt plan (middle low high)))
     (λ _. plannedAt plan high)
 
 -- "`shortest`: search MINUTES first; none or stopped there is the answer. Then low = 0, high = MINUTES"

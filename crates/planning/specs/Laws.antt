@@ -1,0 +1,10 @@
+-- What is proved about the definitions beside this file.
+pub mod Completeness
+pub mod Cuttings
+pub mod Finite
+pub mod Modes
+pub mod Plans
+pub mod Promises
+pub mod Saturation
+pub mod Search
+pub mod Soundness
