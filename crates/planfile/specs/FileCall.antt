@@ -12,7 +12,7 @@ use Rattle.planning.specs.Bounds.{mostCells, mostEngines}
 use Rattle.planning.specs.Modes.{Planned, planned, answerOf, tableAfter, sparesAfter, overFront}
 use Rattle.planfile.specs.declared.FileAnswer.{FileAnswer}
 use Rattle.planfile.specs.declared.FileAnswer.the-variants.{Printed, Refused}
-use Rattle.planfile.specs.FilePlan.{FilePlan, planOf}
+use Rattle.planfile.specs.FilePlan.{FilePlan, unnamed}
 use Rattle.planfile.specs.Print.{printOf, refusalPrint}
 use Rattle.planfile.specs.Reading.{Read, refused, accepted, _>>=_, require, readFile}
 
@@ -25,7 +25,7 @@ pub record FileCall : Type 0 where
 
 -- the print of the plan's answer
 unfoldable pub printed : FilePlan → List ℕ
-printed f = printOf f (planned (planOf f))
+printed f = printOf f (planned (unnamed f))
 
 -- "9 comes after 8, before anything is written.": "lent table of the wrong length, or output longer than the lent space"
 unfoldable pub readCall : FileCall → Read FilePlan
@@ -39,7 +39,7 @@ readCall call = do
 -- what the call returns: the answer with the print's length, or "its number and the record"
 unfoldable pub returnedBy : Read FilePlan → FileAnswer
 returnedBy (refused refusal) = Refused refusal
-returnedBy (accepted f) = Printed (answerOf (planned (planOf f))) (length (printed f))
+returnedBy (accepted f) = Printed (answerOf (planned (unnamed f))) (length (printed f))
 
 unfoldable pub returned : FileCall → FileAnswer
 returned call = returnedBy (readCall call)
@@ -50,10 +50,10 @@ onExit (refused refusal) lent changed = lent
 onExit (accepted f) lent changed = changed f
 
 unfoldable pub tableOnExit : FileCall → List ℕ
-tableOnExit call = onExit (readCall call) (call .table) (λ f. tableAfter (planOf f) (call .table))
+tableOnExit call = onExit (readCall call) (call .table) (λ f. tableAfter (unnamed f) (call .table))
 
 unfoldable pub spareOnExit : FileCall → List ℕ
-spareOnExit call = onExit (readCall call) (call .spare) (λ f. sparesAfter (planOf f) (call .spare))
+spareOnExit call = onExit (readCall call) (call .spare) (λ f. sparesAfter (unnamed f) (call .spare))
 
 -- "The print stands at the front of the lent output; bytes behind it are kept."
 unfoldable pub outputOnExit : FileCall → List ℕ

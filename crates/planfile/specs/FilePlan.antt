@@ -24,8 +24,8 @@ pub record FilePlan : Type 0 where
   pub deliveries : List NamedDelivery
 
 -- the plan without its names
-unfoldable pub planOf : FilePlan → Plan
-planOf f =
+unfoldable pub unnamed : FilePlan → Plan
+unnamed f =
     record {
       mode = f .mode;
       minutes = f .minutes;

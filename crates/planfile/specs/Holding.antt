@@ -10,7 +10,7 @@ use Rattle.planning.specs.declared.Mode.{Mode}
 use Rattle.planning.specs.declared.Mode.the-variants.{Fixed, Shortest}
 use Rattle.planning.specs.Plan.{All, Within, InRange}
 use Rattle.planfile.specs.Bounds.{mostBytes, mostNameBytes, leastNameByte, mostNameByte}
-use Rattle.planfile.specs.FilePlan.{FilePlan, NamedEngine, NamedDelivery, planOf, engineNames, deliveryNames}
+use Rattle.planfile.specs.FilePlan.{FilePlan, NamedEngine, NamedDelivery, unnamed, engineNames, deliveryNames}
 use Rattle.planfile.specs.Numerals.{Numeral}
 
 -- "MODE is `fixed` or `shortest`."
@@ -73,4 +73,4 @@ pub record Holds (bytes : List ℕ) (f : FilePlan) : Type 0 where
   pub enginesUnlike : Unlike (engineNames f)
   pub deliveriesUnlike : Unlike (deliveryNames f)
   -- counts and ranges
-  pub inRange : InRange (planOf f)
+  pub inRange : InRange (unnamed f)

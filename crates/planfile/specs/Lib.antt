@@ -3,6 +3,7 @@ pub mod Examples
 pub mod FileCall
 pub mod FilePlan
 pub mod Holding
+pub mod Laws
 pub mod Numerals
 pub mod Print
 pub mod Reading

@@ -9,7 +9,7 @@ use Rattle.planning.specs.declared.Outcome.{Outcome}
 use Rattle.planning.specs.declared.Outcome.the-variants.{Found, None, Stopped}
 use Rattle.planning.specs.declared.Refusal.{Refusal}
 use Rattle.planning.specs.Modes.{Planned, outcomeOf, triesOf, pieceIn}
-use Rattle.planning.specs.Refusals.{numberOf}
+use Rattle.planning.specs.Refusals.{faultNumber}
 use Rattle.planning.specs.Search.{Result, found, none, stopped}
 use Rattle.planfile.specs.FilePlan.{FilePlan, NamedEngine, NamedDelivery}
 use Rattle.planfile.specs.Numerals.{decimal}
@@ -57,4 +57,4 @@ printOf f a = writtenFile (answerLines (a .minutes) (a .result) (linesOf f (a .r
 -- "`refused,NUMBER,RECORD,0`", which the program prints
 unfoldable pub refusalPrint : Refusal → List ℕ
 refusalPrint refusal =
-    writtenFile ((ascii "refused" ∷ decimal (numberOf (refusal .fault)) ∷ decimal (refusal .place) ∷ ascii "0" ∷ []) ∷ [])
+    writtenFile ((ascii "refused" ∷ decimal (faultNumber (refusal .fault)) ∷ decimal (refusal .place) ∷ ascii "0" ∷ []) ∷ [])

@@ -28,6 +28,7 @@ pub data Read (A : Type 0) : Type 0 where
   accepted : A → Read A
 
 -- one reading after another: the first refusal decides
+infixl 1 _>>=_
 unfoldable pub _>>=_ : {A B : Type 0} → Read A → (A → Read B) → Read B
 _>>=_ (refused refusal) next = refused refusal
 _>>=_ (accepted value) next = next value

@@ -3,6 +3,7 @@ pub mod Completeness
 pub mod Cuttings
 pub mod Finite
 pub mod Modes
+pub mod Numbers
 pub mod Plans
 pub mod Promises
 pub mod Saturation

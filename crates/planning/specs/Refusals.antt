@@ -9,25 +9,25 @@ use Rattle.planning.specs.declared.Fault.the-variants.{Size, Grammar, Fi
 use Rattle.planning.specs.declared.Refusal.{Refusal}
 
 -- the column "No." of the table, by its column "When"
-unfoldable pub numberOf : Fault → ℕ
+unfoldable pub faultNumber : Fault → ℕ
 -- "file empty or above 32,768 bytes"
-numberOf Size = 1
+faultNumber Size = 1
 -- "record breaks RFC 4180"
-numberOf Grammar = 2
+faultNumber Grammar = 2
 -- "not four fields; on numbers: paired lists differ in length"
-numberOf Fields = 3
+faultNumber Fields = 3
 -- "first field unknown; record 1 no plan; a plan later"
-numberOf Kind = 4
+faultNumber Kind = 4
 -- "name against the rule above"
-numberOf Name = 5
+faultNumber Name = 5
 -- "MODE or a number against its form or range"
-numberOf Value = 6
+faultNumber Value = 6
 -- "a 13th engine or 65th delivery"
-numberOf Count = 7
+faultNumber Count = 7
 -- "no engine"
-numberOf NoEngine = 8
+faultNumber NoEngine = 8
 -- "lent table of the wrong length, or output longer than the lent space"
-numberOf Space = 9
+faultNumber Space = 9
 
 -- one check: a fault at a record, where the test fails
 unfoldable pub check : Bool → Fault → (place : ℕ) → Option Refusal

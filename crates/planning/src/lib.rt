@@ -20,7 +20,7 @@ pub struct Answer {
     pub tries: u64,
 }
 
-// Why a call is turned down: the rows 1 to 9 of document 01's table, in its order. `numberOf` in specs/ gives the number.
+// Why a call is turned down: the rows 1 to 9 of document 01's table, in its order. `faultNumber` in specs/ gives the number.
 pub enum Fault {
     Size,
     Grammar,

@@ -1,0 +1,6 @@
+pub mod Tests
+pub mod Listed
+pub mod Records
+pub mod Reading
+pub mod Holding
+pub mod Refusals
