@@ -25,7 +25,8 @@ lineFeed = 0x0A
 unfoldable pub inRange : ℕ → ℕ → ℕ → Bool
 inRange low high b = leb low b && leb b high
 
--- TEXTDATA = %x20-21 / %x23-2B / %x2D-7E, the four bytes with a name, and Refused for every other byte
+-- TEXTDATA = %x20-21 / %x23-2B / %x2D-7E (document 01: "Unquoted text is RFC 4180's TEXTDATA"), the four bytes with a name, and
+-- Refused for every other byte
 unfoldable pub classOf : ℕ → ByteClass
 unfolding inRange
 classOf b =

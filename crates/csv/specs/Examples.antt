@@ -22,12 +22,12 @@ pub data Example : Type 0 where
   writes : List String → String → Example
 
 -- what the definitions give for an example
-unfoldable pub found : Example → Option (List (List (List ℕ)))
+unfoldable pub evaluated : Example → Option (List (List (List ℕ)))
 unfolding ascii fileValues records writtenRecord
-found (reads file values) = fileValues (ascii file)
-found (breaks file) = fileValues (ascii file)
-found (splits file texts) = some (records (ascii file) ∷ [])
-found (writes values text) = some ((writtenRecord (map ascii values) ∷ []) ∷ [])
+evaluated (reads file values) = fileValues (ascii file)
+evaluated (breaks file) = fileValues (ascii file)
+evaluated (splits file texts) = some (records (ascii file) ∷ [])
+evaluated (writes values text) = some ((writtenRecord (map ascii values) ∷ []) ∷ [])
 
 -- what the example states
 unfoldable pub stated : Example → Option (List (List (List ℕ)))
@@ -88,6 +88,6 @@ examples =
     ∷ writes ("b\"bb" ∷ "b,b" ∷ "b\r\nbb" ∷ "\r" ∷ "\n" ∷ []) "\"b\"\"bb\",\"b,b\",\"b\r\nbb\",\"\r\",\"\n\""
     ∷ []
 
-pub examples-hold : map found examples ≡ map stated examples
-unfolding found stated examples
+pub examples-hold : map evaluated examples ≡ map stated examples
+unfolding evaluated stated examples
 examples-hold = refl

@@ -1,4 +1,5 @@
--- Where the records of a file end: at the first CR LF outside quotes, that is, after an even number of quote bytes.
+-- Where the records of a file end. Document 01: "A record ends at the first CR LF outside quotes. Outside quotes means after an even
+-- number of quote bytes. An unclosed quote is 2."
 -- Assumes nothing.
 use Prim.Native.Nat.{ℕ, zero, suc}
 use mathlib.Core.Bool.{Bool, true, cond, not, _&&_}
@@ -25,16 +26,16 @@ behindEnd outside (b ∷ c ∷ rest) = cond (outside && eqb b carriageReturn && 
 
 -- a record that ends here, or else one more byte of its text
 unfoldable pub endedOr : Option (List ℕ) → ℕ → FirstRecord → FirstRecord
-endedOr (some rest) b found = record { text = []; behind = some rest }
-endedOr none b found = record { text = b ∷ found .text; behind = found .behind }
+endedOr (some rest) b front = record { text = []; behind = some rest }
+endedOr none b front = record { text = b ∷ front .text; behind = front .behind }
 
 -- what is left of the first record where its text so far is, or is not, outside quotes
 unfoldable pub firstFrom : Bool → List ℕ → FirstRecord
 unfolding outsideAfter behindEnd endedOr
 firstFrom outside [] = record { text = []; behind = none }
 firstFrom outside (b ∷ rest) =
-    let found = firstFrom (outsideAfter outside b) rest in
-    endedOr (behindEnd outside (b ∷ rest)) b found
+    let front = firstFrom (outsideAfter outside b) rest in
+    endedOr (behindEnd outside (b ∷ rest)) b front
 
 -- the first record of a file or of the rest of a file
 unfoldable pub firstRecord : List ℕ → FirstRecord
@@ -43,7 +44,7 @@ firstRecord bytes = firstFrom true bytes
 
 -- the bytes of the records after the first one: empty where there is no further record
 unfoldable pub further : FirstRecord → List ℕ
-further found = Option·getD (found .behind) []
+further front = Option·getD (front .behind) []
 
 -- the texts of the records, at most n, that follow a record: none where no byte follows
 unfoldable pub furtherRecords : ℕ → List ℕ → List (List ℕ)
@@ -51,12 +52,12 @@ unfolding firstRecord further
 furtherRecords zero bytes = []
 furtherRecords (suc n) [] = []
 furtherRecords (suc n) (b ∷ rest) =
-    let found = firstRecord (b ∷ rest) in
-    found .text ∷ furtherRecords n (further found)
+    let front = firstRecord (b ∷ rest) in
+    front .text ∷ furtherRecords n (further front)
 
 -- the texts of all records of a file, from the front; a file has one record or more
 unfoldable pub records : List ℕ → List (List ℕ)
 unfolding furtherRecords
 records bytes =
-    let found = firstRecord bytes in
-    found .text ∷ furtherRecords (length bytes) (further found)
+    let front = firstRecord bytes in
+    front .text ∷ furtherRecords (length bytes) (further front)

@@ -37,30 +37,30 @@ readCall call = do
   accepted f
 
 -- what the call returns: the answer with the print's length, or "its number and the record"
-unfoldable pub returnedBy : Read FilePlan → FileAnswer
-returnedBy (refused refusal) = Refused refusal
-returnedBy (accepted f) = Printed (answerOf (planned (unnamed f))) (length (printed f))
+unfoldable pub answerBy : Read FilePlan → FileAnswer
+answerBy (refused refusal) = Refused refusal
+answerBy (accepted f) = Printed (answerOf (planned (unnamed f))) (length (printed f))
 
-unfoldable pub returned : FileCall → FileAnswer
-returned call = returnedBy (readCall call)
+unfoldable pub answerToFile : FileCall → FileAnswer
+answerToFile call = answerBy (readCall call)
 
 -- the lent lists afterwards: "fills from the front what its plan has, and keeps the others"; each refusal "changes nothing lent"
 unfoldable pub onExit : Read FilePlan → (lent : List ℕ) → (FilePlan → List ℕ) → List ℕ
 onExit (refused refusal) lent changed = lent
 onExit (accepted f) lent changed = changed f
 
-unfoldable pub tableOnExit : FileCall → List ℕ
-tableOnExit call = onExit (readCall call) (call .table) (λ f. tableAfter (unnamed f) (call .table))
+unfoldable pub fileTable : FileCall → List ℕ
+fileTable call = onExit (readCall call) (call .table) (λ f. tableAfter (unnamed f) (call .table))
 
-unfoldable pub spareOnExit : FileCall → List ℕ
-spareOnExit call = onExit (readCall call) (call .spare) (λ f. sparesAfter (unnamed f) (call .spare))
+unfoldable pub fileSpare : FileCall → List ℕ
+fileSpare call = onExit (readCall call) (call .spare) (λ f. sparesAfter (unnamed f) (call .spare))
 
 -- "The print stands at the front of the lent output; bytes behind it are kept."
-unfoldable pub outputOnExit : FileCall → List ℕ
-outputOnExit call = onExit (readCall call) (call .output) (λ f. overFront (printed f) (call .output))
+unfoldable pub fileOutput : FileCall → List ℕ
+fileOutput call = onExit (readCall call) (call .output) (λ f. overFront (printed f) (call .output))
 
--- "Program `planner` reads standard input and prints CSV": all that it prints. Its own tables and output have the lengths
--- asked for and space for every print, so 9 has no part in it.
+-- "Program `planner` reads standard input and prints CSV": all that it prints. It has to bring tables of the lengths asked for and
+-- space for every print, so that 9 has no part in it.
 unfoldable pub programBy : Read FilePlan → List ℕ
 programBy (refused refusal) = refusalPrint refusal
 programBy (accepted f) = printed f

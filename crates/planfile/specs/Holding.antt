@@ -18,14 +18,14 @@ unfoldable pub modeWord : Mode → List ℕ
 modeWord Fixed = ascii "fixed"
 modeWord Shortest = ascii "shortest"
 
--- "`plan,MODE,MINUTES,TRIES` is record 1": the values of its fields
+-- "`plan,MODE,MINUTES,TRIES` is record 1 and stands only there.": the values of its fields
 pub data PlanRecord : List (List ℕ) → Mode → (minutes allowance : ℕ) → Type 0 where
   plan-record : {mode : Mode} {minutes allowance : ℕ} {m t : List ℕ}
       → Numeral m minutes
       → Numeral t allowance
       → PlanRecord (ascii "plan" ∷ modeWord mode ∷ m ∷ t ∷ []) mode minutes allowance
 
--- the other records: "`engine,NAME,WATTS,FUEL`" and "`delivery,NAME,ENERGY,LIMIT`", "in any mixture", with the engines and the
+-- the other records, each of "exactly four fields": "`engine,NAME,WATTS,FUEL`" and "`delivery,NAME,ENERGY,LIMIT`", "in any mixture", with the engines and the
 -- deliveries among them in file order
 pub data Mixture : List (List (List ℕ)) → List NamedEngine → List NamedDelivery → Type 0 where
   mixture-end : Mixture [] [] []

@@ -1,3 +1,4 @@
+-- What is proved about the definitions beside this file.
 pub mod Tests
 pub mod Listed
 pub mod Records

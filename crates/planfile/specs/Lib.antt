@@ -1,3 +1,4 @@
+-- The plan file: the definitions of document 01, what is proved about them, and evaluated files.
 pub mod Bounds
 pub mod Examples
 pub mod FileCall

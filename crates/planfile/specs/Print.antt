@@ -39,7 +39,7 @@ unfoldable pub pieceLines : List NamedDelivery → List NamedEngine → (x : ℕ
 pieceLines [] es x = []
 pieceLines (d ∷ ds) es x = rowLines (d .name) es (λ i. x 0 i) ++ pieceLines ds es (λ p i. x (suc p) i)
 
--- the lines behind line 1
+-- the lines behind line 1: "Others print one line", which has no pieces
 unfoldable pub linesOf : FilePlan → Result → List Line
 linesOf f (found tries table) = pieceLines (f .deliveries) (f .engines) (λ p i. pieceIn (length (f .engines)) table p i)
 linesOf f (none tries) = []

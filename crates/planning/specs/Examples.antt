@@ -2,4 +2,5 @@
 pub mod Calls
 pub mod Discerning
 pub mod Evaluation
+pub mod Lookups
 pub mod Starred

@@ -2,6 +2,7 @@
 pub mod Completeness
 pub mod Cuttings
 pub mod Finite
+pub mod Lent
 pub mod Modes
 pub mod Numbers
 pub mod Plans
@@ -9,3 +10,4 @@ pub mod Promises
 pub mod Saturation
 pub mod Search
 pub mod Soundness
+pub mod SpareLookup

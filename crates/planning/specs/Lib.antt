@@ -1,3 +1,4 @@
+-- Planning: the definitions of document 01, what is proved about them, and evaluated plans.
 pub mod Bounds
 pub mod Capacity
 pub mod Cutting

@@ -32,7 +32,7 @@ pub record Planned : Type 0 where
 unfoldable pub plannedAt : Plan → ℕ → Planned
 plannedAt plan T = record { minutes = T; result = searchAt plan T }
 
--- what follows a search by its outcome
+-- what follows a search by its outcome: each branch waits until the outcome is known, and takes the tries
 unfoldable pub byOutcome : {A : Type 0} → Result → (ifFound ifNone ifStopped : ℕ → A) → A
 byOutcome (found tries table) ifFound ifNone ifStopped = ifFound tries
 byOutcome (none tries) ifFound ifNone ifStopped = ifNone tries
@@ -42,12 +42,13 @@ byOutcome (stopped tries) ifFound ifNone ifStopped = ifStopped tries
 abbrev pub middle : (low high : ℕ) → ℕ
 middle low high = (low + high) / 2
 
--- "while high − low is above 1, search T = (low + high) / 2 rounded down; found sets high, none sets low, stopped answers
--- stopped with that T. The answer is the search at high." On a bound for the number of turns: high - low falls with each.
+-- one of two branches, each of which waits until the test is known
 unfoldable pub whileAbove : {A : Type 0} → Bool → (turn answer : ℕ → A) → A
 whileAbove true turn answer = turn 0
 whileAbove false turn answer = answer 0
 
+-- "while high − low is above 1, search T = (low + high) / 2 rounded down; found sets high, none sets low, stopped answers
+-- stopped with that T. The answer is the search at high." On a bound for the number of turns: high - low falls with each.
 unfoldable pub bisect : (bound : ℕ) → Plan → (low high : ℕ) → Planned
 bisect zero plan low high = plannedAt plan high
 bisect (suc bound) plan low high =
@@ -107,8 +108,8 @@ spares plan T table =
     (length (plan .engines))
     (λ i. at (capacities plan T) i - sum (length (plan .deliveries)) (λ p. pieceIn (length (plan .engines)) table p i))
 
--- "fills from the front what its plan has, and keeps the others": on numbers a lent list has just the plan's length, and
--- nothing is left of it
+-- "fills from the front what its plan has, and keeps the others": on numbers the lent list has the plan's own length, so all of it
+-- is written
 unfoldable pub overFront : (new lent : List ℕ) → List ℕ
 overFront new lent = new ++ drop (length new) lent
 

@@ -85,12 +85,12 @@ pub record Accepted (call : Call) : Type 0 where
   pub spare : length (call .spare) ≡ length (call .watts)
 
 -- what the call returns, and what the lent table and spare list hold afterwards: "Each refusal .. changes nothing lent."
-unfoldable pub returned : Call → Option Refusal → Allocation
-returned call (some refusal) = Refused refusal
-returned call none = Answered (answerOf (planned (planOf call)))
+unfoldable pub answeredBy : Call → Option Refusal → Allocation
+answeredBy call (some refusal) = Refused refusal
+answeredBy call none = Answered (answerOf (planned (planOf call)))
 
 unfoldable pub allocation : Call → Allocation
-allocation call = returned call (refusalOf call)
+allocation call = answeredBy call (refusalOf call)
 
 unfoldable pub unlessRefused : Option Refusal → (lent written : List ℕ) → List ℕ
 unlessRefused (some refusal) lent written = lent

@@ -24,6 +24,7 @@ pub record Plan : Type 0 where
   pub engines : List Engine
   pub deliveries : List Delivery
 
+-- the energies and the limits of the deliveries, in file order
 abbrev pub energies : Plan → List ℕ
 energies plan = map (λ (d : Delivery). d .energy) (plan .deliveries)
 

@@ -2,8 +2,8 @@
 --
 -- Engines and deliveries are numbered from 0 in file order. An engine is open while something of it remains ("An engine with
 -- nothing remaining is closed."), a delivery is left while its rest is above 0: laid whole it has rest 0, and a cut leaves a
--- rest, since F cuts only where the remaining is below it. A piece table is a list with a row for each delivery, a number for
--- each engine in it.
+-- rest, since F cuts only where the remaining is below it. A piece table is a list with "a row for each delivery", and in it a
+-- number for each engine.
 -- Assumes nothing.
 use Prim.Native.Nat.{ℕ, zero, suc, _+_, _*_, _-_, min}
 use mathlib.Core.Bool.{Bool, true, false, _&&_}
@@ -16,10 +16,12 @@ use Rattle.planning.specs.Sum.{sum, positives}
 abbrev pub at : List ℕ → ℕ → ℕ
 at xs i = getD xs i 0
 
+-- the sum of a list
 unfoldable pub total : List ℕ → ℕ
 total xs = sum (length xs) (at xs)
 
--- the search state: what remains of each engine, and each delivery's rest and limit
+-- the search state: what remains of each engine, and each delivery's rest and limit. "The engines still open travel with the
+-- search state": those of which something remains
 pub record State : Type 0 where
   pub remaining : List ℕ
   pub rest : List ℕ
@@ -33,6 +35,7 @@ comesFirst true false restP limitP restQ limitQ = true
 comesFirst false true restP limitP restQ limitQ = false
 comesFirst false false restP limitP restQ limitQ = ltb (restQ * (limitP - 1)) (restP * (limitQ - 1))
 
+-- whether p comes before q
 unfoldable pub bulkier : (restP limitP restQ limitQ : ℕ) → Bool
 bulkier restP limitP restQ limitQ = comesFirst (eqb limitP 1) (eqb limitQ 1) restP limitP restQ limitQ
 
@@ -58,16 +61,18 @@ unfoldable pub bulkiestOf : State → ℕ → Choice
 bulkiestOf s zero = noneLeft
 bulkiestOf s (suc p) = withDelivery (ltb 0 (at (s .rest) p)) s (bulkiestOf s p) p
 
--- "the smallest remaining of open engines", among the first n engines; 0 where none of them is open
+-- the smaller of two remainings, where 0 is no open engine's
 unfoldable pub smaller : (sofar next : ℕ) → ℕ
 smaller m zero = m
 smaller zero (suc c) = suc c
 smaller (suc m) (suc c) = min (suc m) (suc c)
 
+-- "the smallest remaining of open engines", among the first n engines; 0 where none of them is open
 unfoldable pub smallestOf : List ℕ → ℕ → ℕ
 smallestOf remaining zero = 0
 smallestOf remaining (suc i) = smaller (smallestOf remaining i) (at remaining i)
 
+-- among all engines
 unfoldable pub smallest : State → ℕ
 smallest s = smallestOf (s .remaining) (length (s .remaining))
 
@@ -117,7 +122,8 @@ afterCutting s p i =
     }
 
 -- E. "straight fill (McNaughton) .. Deliveries left in file order, open engines in file order, each engine filled before the
--- next, no piece of 0": the row of a delivery with that rest, and what then remains of the engines
+-- next, no piece of 0": the row of a delivery with that rest, and what then remains of the engines. A number of 0 is no piece; a
+-- delivery that is done has a rest of 0, a closed engine a remaining of 0.
 unfoldable pub drawn : (rest : ℕ) → (remaining : List ℕ) → List ℕ
 drawn r [] = []
 drawn r (c ∷ cs) = min r c ∷ drawn (r - c) cs
@@ -136,9 +142,13 @@ pub data Result : Type 0 where
   none : (tries : ℕ) → Result
   stopped : (tries : ℕ) → Result
 
--- the cell of delivery p and engine i in a table with that many engines
+-- the cell of delivery p and engine i in a table with that many engines: "a row for each delivery"
 unfoldable pub cell : (engines p i : ℕ) → ℕ
 cell engines p i = p * engines + i
+
+-- the table without pieces
+abbrev pub noPieces : State → List ℕ
+noPieces s = replicate (length (s .rest) * length (s .remaining)) 0
 
 -- the result of a try, with the piece that the try laid or cut off
 unfoldable pub withPiece : (place amount : ℕ) → Result → Result
@@ -146,8 +156,8 @@ withPiece place amount (found tries table) = found tries (set table place amount
 withPiece place amount (none tries) = none tries
 withPiece place amount (stopped tries) = stopped tries
 
--- "When D or F has no further engine, all it changed is put back and the step before goes on": a try that ends in none is
--- followed by the next engine, with the tries made so far
+-- "When D or F has no further engine, all it changed is put back and the step before goes on; before the first step that is
+-- none.": a try that ends in none is followed by the next engine, from the same state, with the tries made so far
 unfoldable pub orElse : Result → (ℕ → Result) → Result
 orElse (found tries table) next = found tries table
 orElse (none tries) next = next tries
@@ -163,6 +173,7 @@ pub data Permission : Type 0 where
   granted : Permission
   exceeds : (allowance : ℕ) → Permission
 
+-- granted while fewer tries are made than the allowance has
 unfoldable pub permitted : (fewer : Bool) → (allowance : ℕ) → Permission
 permitted true allowance = granted
 permitted false allowance = exceeds allowance
@@ -184,9 +195,10 @@ eachEngine zero eligible try allowance i made = none made
 eachEngine (suc n) eligible try allowance i made =
     oneEngine (eligible i) (permission allowance made) made (λ t. try i t) (λ t. eachEngine n eligible try allowance (i + 1) t)
 
--- B, D, E or F, where `goToB` is the search from the state after a try
+-- "B. No delivery left: found.", or E, D or F, where `goToB` is the search from the state after a try: "Choosing leads to laying
+-- or cutting, and these lead back to choosing. .. each try hands the state on."
 unfoldable pub perform : Step → (State → ℕ → Result) → Allowance → State → (made : ℕ) → Result
-perform finished goToB allowance s made = found made (replicate (length (s .rest) * length (s .remaining)) 0)
+perform finished goToB allowance s made = found made (noPieces s)
 perform fills goToB allowance s made = found made (straightFill (s .rest) (s .remaining))
 perform (lays p) goToB allowance s made =
     eachEngine
@@ -210,9 +222,9 @@ unfoldable pub size : State → ℕ
 size s = positives (length (s .remaining)) (at (s .remaining)) + positives (length (s .rest)) (at (s .rest))
 
 -- Steps B to F on a bound for the number of steps. With a bound of 0, that is no open engine and no delivery left, B alone
--- applies. That any bound from the size on gives the same is proved in Laws/Bound.
+-- applies. That any bound from the size on gives the same is proved in Laws/Search/Bound.
 unfoldable pub searchWithin : (bound : ℕ) → Allowance → State → (made : ℕ) → Result
-searchWithin zero allowance s made = perform finished (λ after tries. none tries) allowance s made
+searchWithin zero allowance s made = found made (noPieces s)
 searchWithin (suc bound) allowance s made =
     perform (stepOf s) (λ after tries. searchWithin bound allowance after tries) allowance s made
 

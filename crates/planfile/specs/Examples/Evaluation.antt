@@ -8,11 +8,10 @@ use Rattle.csv.specs.Records.{records}
 use Rattle.csv.specs.Text.{ascii}
 use Rattle.csv.specs.Writer.{writtenFile}
 use Rattle.planning.specs.Examples.Evaluation.{evaluated}
-use Rattle.planning.specs.Modes.{outcomeOf, triesOf, answerOf, tableBy, tableAfter}
 use Rattle.planning.specs.Numbers.{within}
 use Rattle.planning.specs.Refusals.{faultNumber}
 use Rattle.planfile.specs.declared.FileAnswer.{FileAnswer}
-use Rattle.planfile.specs.FileCall.{FileCall, printed, readCall, returnedBy, returned, onExit, tableOnExit, spareOnExit, outputOnExit, programBy, programPrint}
+use Rattle.planfile.specs.FileCall.{FileCall, printed, readCall, answerBy, answerToFile, onExit, fileTable, fileSpare, fileOutput, programBy, programPrint}
 use Rattle.planfile.specs.FilePlan.{unnamed}
 use Rattle.planfile.specs.Numerals.{valueBehind, allDigits, numberOf, decimalWithin, decimal}
 use Rattle.planfile.specs.Print.{wordOf, pieceLine, rowLines, pieceLines, linesOf, answerLines, printOf, refusalPrint}
@@ -29,7 +28,7 @@ example file print = record { file = ascii file; print = ascii print }
 
 -- each example of a list is what the definitions make of its file
 unfoldable pub printedAll : List Example → List Example
-unfolding evaluated fieldValues records writtenFile outcomeOf triesOf within faultNumber printed programBy programPrint unnamed valueBehind allDigits numberOf decimalWithin decimal wordOf pieceLine rowLines pieceLines linesOf answerLines printOf refusalPrint _>>=_ fault require same fourOf unlessBroken fieldsOf modeBy readMode numberBy readNumber nameBytes soundName unused readPlan readEngine readDelivery recordBy readRecord readRecords readTexts readFile ascii
+unfolding evaluated fieldValues records writtenFile within faultNumber printed programBy programPrint unnamed valueBehind allDigits numberOf decimalWithin decimal wordOf pieceLine rowLines pieceLines linesOf answerLines printOf refusalPrint _>>=_ fault require same fourOf unlessBroken fieldsOf modeBy readMode numberBy readNumber nameBytes soundName unused readPlan readEngine readDelivery recordBy readRecord readRecords readTexts readFile ascii
 printedAll examples = map (λ (e : Example). record { file = e .file; print = programPrint (e .file) }) examples
 
 -- a call with a file, what it returns, and what the lent tables and the output then hold
@@ -42,15 +41,15 @@ pub record CallExample : Type 0 where
 
 -- each example of a list is what the definitions make of its call
 unfoldable pub calledAll : List CallExample → List CallExample
-unfolding printedAll answerOf tableBy tableAfter readCall returnedBy returned onExit tableOnExit spareOnExit outputOnExit
+unfolding printedAll readCall answerBy answerToFile onExit fileTable fileSpare fileOutput
 calledAll examples =
     map
     (λ (e : CallExample).
     record {
       given = e .given;
-      answer = returned (e .given);
-      table = tableOnExit (e .given);
-      spare = spareOnExit (e .given);
-      output = outputOnExit (e .given);
+      answer = answerToFile (e .given);
+      table = fileTable (e .given);
+      spare = fileSpare (e .given);
+      output = fileOutput (e .given);
     })
     examples

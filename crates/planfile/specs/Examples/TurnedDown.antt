@@ -21,6 +21,8 @@ turned-down =
     ∷ example "plan,fixed,060,9" "refused,6,1,0\r\n"
     -- 7: 13 engine records
     ∷ example "plan,fixed,60,9\r\nengine,E1,5,5\r\nengine,E2,5,5\r\nengine,E3,5,5\r\nengine,E4,5,5\r\nengine,E5,5,5\r\nengine,E6,5,5\r\nengine,E7,5,5\r\nengine,E8,5,5\r\nengine,E9,5,5\r\nengine,E10,5,5\r\nengine,E11,5,5\r\nengine,E12,5,5\r\nengine,E13,5,5" "refused,7,14,0\r\n"
+    -- 7: a 65th delivery
+    ∷ example "plan,fixed,60,9\r\nengine,E1,60,1000\r\ndelivery,D1,1,1\r\ndelivery,D2,1,1\r\ndelivery,D3,1,1\r\ndelivery,D4,1,1\r\ndelivery,D5,1,1\r\ndelivery,D6,1,1\r\ndelivery,D7,1,1\r\ndelivery,D8,1,1\r\ndelivery,D9,1,1\r\ndelivery,D10,1,1\r\ndelivery,D11,1,1\r\ndelivery,D12,1,1\r\ndelivery,D13,1,1\r\ndelivery,D14,1,1\r\ndelivery,D15,1,1\r\ndelivery,D16,1,1\r\ndelivery,D17,1,1\r\ndelivery,D18,1,1\r\ndelivery,D19,1,1\r\ndelivery,D20,1,1\r\ndelivery,D21,1,1\r\ndelivery,D22,1,1\r\ndelivery,D23,1,1\r\ndelivery,D24,1,1\r\ndelivery,D25,1,1\r\ndelivery,D26,1,1\r\ndelivery,D27,1,1\r\ndelivery,D28,1,1\r\ndelivery,D29,1,1\r\ndelivery,D30,1,1\r\ndelivery,D31,1,1\r\ndelivery,D32,1,1\r\ndelivery,D33,1,1\r\ndelivery,D34,1,1\r\ndelivery,D35,1,1\r\ndelivery,D36,1,1\r\ndelivery,D37,1,1\r\ndelivery,D38,1,1\r\ndelivery,D39,1,1\r\ndelivery,D40,1,1\r\ndelivery,D41,1,1\r\ndelivery,D42,1,1\r\ndelivery,D43,1,1\r\ndelivery,D44,1,1\r\ndelivery,D45,1,1\r\ndelivery,D46,1,1\r\ndelivery,D47,1,1\r\ndelivery,D48,1,1\r\ndelivery,D49,1,1\r\ndelivery,D50,1,1\r\ndelivery,D51,1,1\r\ndelivery,D52,1,1\r\ndelivery,D53,1,1\r\ndelivery,D54,1,1\r\ndelivery,D55,1,1\r\ndelivery,D56,1,1\r\ndelivery,D57,1,1\r\ndelivery,D58,1,1\r\ndelivery,D59,1,1\r\ndelivery,D60,1,1\r\ndelivery,D61,1,1\r\ndelivery,D62,1,1\r\ndelivery,D63,1,1\r\ndelivery,D64,1,1\r\ndelivery,D65,1,1" "refused,7,67,0\r\n"
     -- 8: a plan alone
     ∷ example "plan,fixed,60,9" "refused,8,0,0\r\n"
     -- 2 before 3 within a record
@@ -43,6 +45,9 @@ turned-down =
     ∷ example "plan,fixed,60,9\r\nengine,E1,60,1000\r\ndelivery,\"D,1,1\r\n" "refused,2,3,0\r\n"
     -- a line break in quotes is sound in a record and wrong in a name
     ∷ example "plan,fixed,60,9\r\nengine,\"E\r\n1\",5,5" "refused,5,2,0\r\n"
+    -- .. in a first field, and in a number
+    ∷ example "plan,fixed,60,9\r\n\"e\r\nngine\",E1,0,5" "refused,4,2,0\r\n"
+    ∷ example "plan,fixed,60,9\r\nengine,E1,\"0\n\",5" "refused,6,2,0\r\n"
     -- a byte outside RFC 4180 is 2, in quotes too
     ∷ example "plan,fixed,60,9\r\nengine,\"E\t\",5,5" "refused,2,2,0\r\n"
     -- an empty field is a field: 6 for a number
@@ -57,6 +62,8 @@ turned-down =
     ∷ example "\r\n" "refused,3,1,0\r\n"
     -- a name of 17 bytes
     ∷ example "plan,fixed,60,9\r\nengine,12345678901234567,5,5" "refused,5,2,0\r\n"
+    -- .. and one of 17 quotes
+    ∷ example "plan,fixed,60,9\r\nengine,\"\"\"\"\"\"\"\"\"\"\"\"\"\"\"\"\"\"\"\"\"\"\"\"\"\"\"\"\"\"\"\"\"\"\"\",5,5" "refused,5,2,0\r\n"
     -- numbers out of range, also beyond machine words
     ∷ example "plan,fixed,0,9" "refused,6,1,0\r\n"
     ∷ example "plan,fixed,10081,9" "refused,6,1,0\r\n"

@@ -12,8 +12,7 @@ use Rattle.planning.specs.declared.Mode.{Mode}
 use Rattle.planning.specs.declared.Mode.the-variants.{Fixed, Shortest}
 use Rattle.planning.specs.declared.Outcome.the-variants.{Found, None, Stopped}
 use Rattle.planning.specs.Examples.Evaluation.{evaluated}
-use Rattle.planning.specs.Modes.{outcomeOf, triesOf, answerOf, tableBy, tableAfter}
-use Rattle.planning.specs.Numbers.{Call, enginesOf, deliveriesOf, planOf, within, engineFault, deliveryFault, refusalOf, returned, allocation, unlessRefused, tableOnExit, spareOnExit}
+use Rattle.planning.specs.Numbers.{Call, enginesOf, deliveriesOf, planOf, within, engineFault, deliveryFault, refusalOf, answeredBy, allocation, unlessRefused, tableOnExit, spareOnExit}
 use Rattle.planning.specs.Refusals.{check, _then_, checkEach}
 
 -- a call that is lent a table and a spare list of those lengths, each filled with a pattern
@@ -50,7 +49,7 @@ turnedDown fault place given =
 
 -- what the definitions make of a call
 pub called : Call → CallExample
-unfolding evaluated outcomeOf triesOf answerOf tableBy tableAfter enginesOf deliveriesOf planOf within engineFault deliveryFault refusalOf returned allocation unlessRefused tableOnExit spareOnExit check _then_ checkEach zipWith
+unfolding evaluated enginesOf deliveriesOf planOf within engineFault deliveryFault refusalOf answeredBy allocation unlessRefused tableOnExit spareOnExit check _then_ checkEach zipWith
 called given = record { given = given; answer = allocation given; table = tableOnExit given; spare = spareOnExit given }
 
 pub calls : List CallExample

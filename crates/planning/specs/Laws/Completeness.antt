@@ -122,7 +122,7 @@ cutting-total {n} {capacity} {energy} {limit} {x} c =
       sum-exchange (length energy) (length capacity) x,
       sum-mono (length capacity) (λ i. sum (length energy) (λ p. x p i)) (λ i. n * at capacity i) (c .fits .within),
     ))
-    (c .parts)
+    (c .fromOne)
 
 -- Where some cutting serves, in any number of parts, the search does not answer none.
 pub cutting-never-none : {n : ℕ} (capacity energy limit : List ℕ) {x : ℕ → ℕ → ℕ} → length limit ≡ length energy
@@ -133,7 +133,7 @@ cutting-never-none {n} capacity energy limit {x} aligned limits c allowance t =
     not-none t
     (rw (le-ltb (total capacity) (total energy) (cutting-total c))
     (search-not-none (size start) {n = n} allowance start 0
-    (record { parts = c .parts; aligned = aligned; limits = λ p l some. limits p l; piece = x; serving = c .fits })))
+    (record { parts = c .fromOne; aligned = aligned; limits = λ p l some. limits p l; piece = x; serving = c .fits })))
   where
     start : State
     start = record { remaining = capacity; rest = energy; limit = limit }

@@ -18,7 +18,7 @@ pub cutting-scales : {n : ℕ} {capacity energy limit : List ℕ} {x : ℕ → �
     → Cuts (n * k) capacity energy limit (λ p i. k * x p i)
 cutting-scales {n} {capacity} {energy} {limit} {x} k some c =
     record {
-      parts = mul-pos (c .parts) some;
+      fromOne = mul-pos (c .fromOne) some;
       fits =
           record {
             whole = λ p l. sum-scale k (length capacity) (x p) ∙ ap (λ v. k * v) (c .fits .whole p l) ∙ scaled (getD energy p 0);
@@ -46,7 +46,7 @@ pub cutting-stays : {n : ℕ} {capacity energy limit : List ℕ} {x : ℕ → �
     → Cuts n capacity energy limit x → Cuts n capacity′ energy limit′ x
 cutting-stays {n} {capacity} {energy} {limit} {x} capacity′ limit′ same more raised c =
     record {
-      parts = c .parts;
+      fromOne = c .fromOne;
       fits =
           rw same
           (record {
@@ -91,7 +91,7 @@ two-engines =
 
 pub halves-serve : Serves 2 two-engines 1 (λ p i. 1)
 unfolding two-engines capacities capacity sum positives sgn
-halves-serve = record { parts = omega arith; fits = record { whole = whole; within = within; few = few } }
+halves-serve = record { fromOne = omega arith; fits = record { whole = whole; within = within; few = few } }
   where
     whole : (p : ℕ) → p < 1 → sum 2 (λ i. 1) ≡ 2 * getD (1 ∷ []) p 0
     whole zero l = refl
@@ -105,3 +105,17 @@ halves-serve = record { parts = omega arith; fits = record { whole = whole; with
     few : (p : ℕ) → p < 1 → positives 2 (λ i. 1) ≤ getD (2 ∷ []) p 0
     few zero l = omega arith
     few (suc p) l = absurd (omega arith)
+
+-- "With no deliveries, the cutting without pieces serves."
+pub no-deliveries-served : (n : ℕ) (capacity limit : List ℕ) (x : ℕ → ℕ → ℕ) → 1 ≤ n → Cuts n capacity [] limit x
+unfolding sum
+no-deliveries-served n capacity limit x some =
+    record {
+      fromOne = some;
+      fits =
+          record {
+            whole = λ p l. absurd (omega arith);
+            within = λ i l. omega arith;
+            few = λ p l. absurd (omega arith);
+          };
+    }

@@ -80,8 +80,8 @@ planned-searched plan = go (plan .mode)
 pub stopped-at : (plan : Plan) → outcomeOf (planned plan .result) ≡ Stopped → outcomeOf (searchAt plan (planned plan .minutes)) ≡ Stopped
 stopped-at plan e = ap outcomeOf (sym (planned-searched plan .result)) ∙ e
 
--- T is the least number of minutes, from 1 on, in which a cutting serves.
-pub record ShortestTime (plan : Plan) (T : ℕ) : Type 0 where
+-- A cutting serves in T minutes, and none in fewer, down to one.
+pub record LeastTime (plan : Plan) (T : ℕ) : Type 0 where
   pub served : Served plan T
   pub earlier : (T′ : ℕ) → 1 ≤ T′ → T′ < T → NotServed plan T′
 
@@ -121,12 +121,12 @@ module _ (plan : Plan) (ranges : All DeliveryInRange (plan .deliveries)) where
     enough : outcomeOf (searchAt plan high) ≡ Found
 
   abbrev ShortestMeans : Planned → Type 0
-  ShortestMeans a = Means (ShortestTime plan (a .minutes)) (NotServed plan (plan .minutes)) (outcomeOf (a .result))
+  ShortestMeans a = Means (LeastTime plan (a .minutes)) (NotServed plan (plan .minutes)) (outcomeOf (a .result))
 
   answered : (T : ℕ) (o : Outcome) → outcomeOf (searchAt plan T) ≡ o
-      → Means (ShortestTime plan T) (NotServed plan (plan .minutes)) o → ShortestMeans (plannedAt plan T)
+      → Means (LeastTime plan T) (NotServed plan (plan .minutes)) o → ShortestMeans (plannedAt plan T)
   unfolding plannedAt
-  answered T o e m = subst (Means (ShortestTime plan T) (NotServed plan (plan .minutes))) (sym e) m
+  answered T o e m = subst (Means (LeastTime plan T) (NotServed plan (plan .minutes))) (sym e) m
 
   shortest-means : ShortestMeans (shortest plan)
   unfolding shortest
@@ -149,7 +149,7 @@ module _ (plan : Plan) (ranges : All DeliveryInRange (plan .deliveries)) where
           answered high Found (b .enough)
           (record { served = known-means high Found (b .enough); earlier = λ T l m. b .short T l (omega arith) })
 
-  shortest-apart : ShortestTime plan (shortest plan .minutes) → NotServed plan (plan .minutes) → ⊥
+  shortest-apart : LeastTime plan (shortest plan .minutes) → NotServed plan (plan .minutes) → ⊥
   shortest-apart t =
       served-apart plan (plan .minutes)
       (served-longer plan (shortest plan .minutes) (plan .minutes) (shortest-searched plan .most) (t .served))
@@ -158,12 +158,12 @@ module _ (plan : Plan) (ranges : All DeliveryInRange (plan .deliveries)) where
   pub shortest-none-exactly : outcomeOf (shortest plan .result) ≢ Stopped
       → (outcomeOf (shortest plan .result) ≡ None) ↔ NotServed plan (plan .minutes)
   shortest-none-exactly =
-      none-exactly (ShortestTime plan (shortest plan .minutes)) (NotServed plan (plan .minutes)) (outcomeOf (shortest plan .result))
+      none-exactly (LeastTime plan (shortest plan .minutes)) (NotServed plan (plan .minutes)) (outcomeOf (shortest plan .result))
       shortest-means shortest-apart
 
   -- Where shortest finds, its minutes are the shortest time; they are from 1 to the plan's by shortest-searched.
-  pub shortest-found : outcomeOf (shortest plan .result) ≡ Found → ShortestTime plan (shortest plan .minutes)
-  shortest-found e = subst (Means (ShortestTime plan (shortest plan .minutes)) (NotServed plan (plan .minutes))) e shortest-means
+  pub shortest-found : outcomeOf (shortest plan .result) ≡ Found → LeastTime plan (shortest plan .minutes)
+  shortest-found e = subst (Means (LeastTime plan (shortest plan .minutes)) (NotServed plan (plan .minutes))) e shortest-means
 
   -- In both modes: unless the answer is stopped, it is none exactly when no cutting serves in the plan's minutes.
   pub planned-none-exactly : outcomeOf (planned plan .result) ≢ Stopped
@@ -185,10 +185,10 @@ module _ (plan : Plan) (ranges : All DeliveryInRange (plan .deliveries)) where
       (sym (planned-in plan e)) (λ o. (refl, known-means (plan .minutes) Found o))
 
   pub planned-shortest-found : plan .mode ≡ Shortest → outcomeOf (planned plan .result) ≡ Found
-      → ShortestTime plan (planned plan .minutes)
+      → LeastTime plan (planned plan .minutes)
   unfolding plannedIn
   planned-shortest-found e =
-      subst (λ (a : Planned). outcomeOf (a .result) ≡ Found → ShortestTime plan (a .minutes)) (sym (planned-in plan e)) shortest-found
+      subst (λ (a : Planned). outcomeOf (a .result) ≡ Found → LeastTime plan (a .minutes)) (sym (planned-in plan e)) shortest-found
 
   -- Unless one of them is stopped, fixed finds exactly when shortest does.
   pub fixed-shortest-found : outcomeOf (plannedIn Fixed plan .result) ≢ Stopped → outcomeOf (plannedIn Shortest plan .result) ≢ Stopped
@@ -203,5 +203,5 @@ module _ (plan : Plan) (ranges : All DeliveryInRange (plan .deliveries)) where
 
       short : (outcomeOf (shortest plan .result) ≡ Found) ↔ (NotServed plan (plan .minutes) → ⊥)
       short =
-          found-exactly (ShortestTime plan (shortest plan .minutes)) (NotServed plan (plan .minutes)) (outcomeOf (shortest plan .result))
+          found-exactly (LeastTime plan (shortest plan .minutes)) (NotServed plan (plan .minutes)) (outcomeOf (shortest plan .result))
           shortest-means shortest-apart shortest-going

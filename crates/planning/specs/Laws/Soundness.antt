@@ -47,7 +47,7 @@ module _ (capacity energy limit : List ℕ) (allowance : Allowance) {tries : ℕ
   pub found-cuts : Cuts 1 capacity energy limit (pieceIn (length capacity) table)
   found-cuts =
       record {
-        parts = omega arith;
+        fromOne = omega arith;
         fits = record {
           whole = λ p l. omega (arith, fits .whole p l);
           within = λ i l. omega (arith, fits .within i l);

@@ -12,7 +12,7 @@ use lib.ListN.{length}
 use borrow.Author.Tests.{ltb-true, ltb-false}
 use Rattle.planning.specs.declared.Outcome.the-variants.{Stopped}
 use Rattle.planning.specs.Modes.{outcomeOf, triesOf}
-use Rattle.planning.specs.Search.{State, at, total, Step, finished, fills, lays, cuts, stepOf, canLay, afterLaying, canCut, afterCutting, Result, found, none, stopped, withPiece, orElse, upTo, unlimited, permitted, permission, oneEngine, eachEngine, cell, perform, size, searchWithin, searchFrom, unlessTooMuch, searched}
+use Rattle.planning.specs.Search.{State, at, total, Step, finished, fills, lays, cuts, stepOf, canLay, afterLaying, canCut, afterCutting, Result, found, none, stopped, withPiece, orElse, noPieces, upTo, unlimited, permitted, permission, oneEngine, eachEngine, cell, perform, size, searchWithin, searchFrom, unlessTooMuch, searched}
 use Rattle.planning.specs.Laws.Finite.Decisions.{le-or-lt}
 
 -- `whole`, with no end of tries, ends with at least the tries made before it and is not stopped; `limited`, with the allowance,
@@ -167,8 +167,7 @@ allowance-perform allowance (cuts p) goToB goToB′ s made h =
 allowance-bound : (bound allowance : ℕ) (s : State) (made : ℕ)
     → WithAllowance allowance made (searchWithin bound unlimited s made) (searchWithin bound (upTo allowance) s made)
 unfolding searchWithin triesOf
-allowance-bound zero allowance s made =
-    allowance-perform allowance finished _ _ s made (λ after t. at-once allowance t (none t) refl (none-not-stopped t))
+allowance-bound zero allowance s made = at-once allowance made (found made (noPieces s)) refl (found-not-stopped made (noPieces s))
 allowance-bound (suc bound) allowance s made =
     allowance-perform allowance (stepOf s) _ _ s made (λ after t. allowance-bound bound allowance after t)
 
