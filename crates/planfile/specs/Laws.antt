@@ -5,3 +5,8 @@ pub mod Records
 pub mod Reading
 pub mod Holding
 pub mod Refusals
+pub mod Decimals
+pub mod PieceLines
+pub mod Print
+pub mod PrintLength
+pub mod ReadBack

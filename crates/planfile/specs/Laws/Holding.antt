@@ -27,11 +27,11 @@ unfolding readFile
 read-file-iff bytes f = simp (require-iff, within-iff, bind-iff, read-texts-iff, leb-iff, accepted-iff) Iff·rfl
 
 -- the plan without its names has as many engines and deliveries
-engine-count : (f : FilePlan) → length ((unnamed f) .engines) ≡ length (f .engines)
+pub engine-count : (f : FilePlan) → length ((unnamed f) .engines) ≡ length (f .engines)
 unfolding unnamed
 engine-count f = length-map (f .engines) (λ (e : NamedEngine). e .engine)
 
-delivery-count : (f : FilePlan) → length ((unnamed f) .deliveries) ≡ length (f .deliveries)
+pub delivery-count : (f : FilePlan) → length ((unnamed f) .deliveries) ≡ length (f .deliveries)
 unfolding unnamed
 delivery-count f = length-map (f .deliveries) (λ (d : NamedDelivery). d .delivery)
 

@@ -20,7 +20,8 @@ use Rattle.planfile.specs.Laws.Tests.{sound-name-iff, unused-iff, accept
 
 -- ---- lists one behind the other
 
-all-append : {A : Type 0} (P : A → Type 0) (xs ys : List A) → All P (xs ++ ys) ↔ (All P xs × All P ys)
+-- a predicate of all members of two lists
+pub all-append : {A : Type 0} (P : A → Type 0) (xs ys : List A) → All P (xs ++ ys) ↔ (All P xs × All P ys)
 all-append P [] ys = (λ all. (tt, all), λ both. both .1)
 all-append P (x ∷ xs) ys =
     let others = all-append P xs ys in (
