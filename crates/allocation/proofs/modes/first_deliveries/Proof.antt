@@ -1,0 +1,28 @@
+-- `allocation::modes::first_deliveries` meets its contract: 2 ^ n - 1 is the set of the first n.
+-- Assumes nothing.
+use mathlib.Core.Path.{ap, _∙_}
+use Prim.Native.Nat.{ℕ, _-_}
+use lib.Dec.{ltb}
+use lib.Pow.{pow-pos}
+use native.Mathlib.Omega.{arith}
+use borrow.Author.Needs.{needs}
+use Rattle.allocation.specs.Laws.FirstSet.{has-first}
+use Rattle.allocation.specs.Laws.Sets.{shifted}
+use Rattle.allocation.specs.Sets.{has}
+use Rattle.allocation.proofs.modes.first_deliveries.Statement.{statement}
+use Rattle.allocation.proofs.modes.first_deliveries.Tie as tie
+
+shl-result : tie.Need-shl-result
+shl-result c = search needs
+
+sub-result : tie.Need-sub-result
+sub-result c = let n = c .before .args .n in omega (arith, shifted 64 n (omega arith), pow-pos n)
+
+returns : tie.Need-returns
+returns c = λ p. has-first 64 p ∙ ap (λ (n : ℕ). ltb p n) (omega arith)
+
+returns-2 : tie.Need-returns-2
+returns-2 c = λ p. let n = c .before .args .n in ap (λ (m : ℕ). has (m - 1) p) (shifted 64 n (omega arith)) ∙ has-first n p
+
+pub first-deliveries-spec : {M : Type 1} → statement M
+first-deliveries-spec = tie.close (tie.spec shl-result sub-result returns returns-2)

@@ -1,0 +1,148 @@
+-- cut, of the cycle {choose, cut, lay}: its loop walks the open engines as step F tries them.
+-- Assumes nothing.
+use mathlib.Core.Path.{_≡_, ap, _∙_}
+use mathlib.Core.Logic.{⊎-elim}
+use Prim.Native.Nat.{ℕ, _+_, _*_, _<_}
+use native.Mathlib.Omega.{arith}
+use lib.Count.{trailingZeros}
+use lib.ListN.{length, length-set}
+use borrow.Author.Needs.{needs}
+use Rattle.allocation.specs.Laws.Rounds.Kinds.{cutting}
+use Rattle.allocation.specs.Laws.Rounds.Loop.{Loop, loop-starts, loop-passes, loop-stops, loop-asks, loop-finds, loop-halts, loop-goes-on, loop-cuts}
+use Rattle.allocation.specs.Laws.Rounds.Walk.{walk-ends, walk-engine, walk-cell, walk-power, walk-less}
+use Rattle.allocation.proofs.search.cut.Reads as cut
+use Rattle.allocation.proofs.search.+choose+cut+lay.Lts-cut as cut-lts
+use Rattle.allocation.proofs.search.+choose+cut+lay.Proof.Measures.{cut-at, cut-claims}
+
+abbrev pub Inv-loop : cut-lts.InvT-loop
+Inv-loop row slot rest made allowance engines deliveries energy limit table₀ s set₀ tries₀ table set tries =
+    Loop cutting engines deliveries energy limit s row slot rest allowance made table₀ table set tries
+
+abbrev pub μ-loop : cut-lts.MeasureT-loop
+μ-loop row slot rest made allowance engines deliveries energy limit table₀ s set₀ tries₀ table set tries = set
+
+module _ (t : ℕ) where
+  -- where choose has returned, and the ways back from there: to where the turn of the loop began, and to the function's start
+  abbrev Called : Type 0
+  Called = cut-lts.After-choose (cut-claims t) (cut-at t) cut.Post Inv-loop μ-loop
+
+  abbrev turn-of : Called → cut-lts.In-loop (cut-claims t) (cut-at t) cut.Post Inv-loop μ-loop
+  turn-of c = c .before .before .before .before .before .before
+
+  abbrev start-of : Called → cut-lts.Start (cut-claims t) (cut-at t) cut.Post Inv-loop μ-loop
+  start-of c = turn-of c .before .before .before
+
+  -- choose leaves the table as long as it came, and the piece has a cell in it
+  same-table : (c : Called) → length (c .choose .last .1 .1 .1 .1 .1 .1 .1 .0) ≡ length (start-of c .args .table .now)
+  same-table c = c .choose .kept .1 .1 .1 .1 .1 .1 .1 .0 ∙ ap length (turn-of c .before .loop .inv .walk .same)
+
+  cell-inside : (c : Called)
+      → start-of c .args .row * start-of c .args .engines + trailingZeros 16 (turn-of c .before .loop .set)
+      < length (start-of c .args .table .now)
+  cell-inside c = walk-cell (turn-of c .before .loop .inv .walk) (turn-of c .loop-test .taken)
+
+  pub loop-holds : cut-lts.Need-loop-holds (cut-claims t) (cut-at t) cut.Post Inv-loop μ-loop
+  loop-holds c =
+      let given = c .before .pre .1 in
+      loop-starts cutting (record { kept = given .0; sized = given .1; picked = given .4; room = given .3 }) (given .5) _ _ (given .2)
+
+  pub cast-i : cut-lts.Need-cast-i (cut-claims t) (cut-at t) cut.Post Inv-loop μ-loop
+  cast-i c = omega (arith, walk-engine (c .before .loop .inv .walk) (c .loop-test .taken))
+
+  pub mul-piece : cut-lts.Need-mul-piece (cut-claims t) (cut-at t) cut.Post Inv-loop μ-loop
+  mul-piece c = omega (arith, walk-engine (c .before .loop .inv .walk) (c .loop-test .taken))
+
+  pub element-copy-out-piece : cut-lts.Need-element-copy-out-piece (cut-claims t) (cut-at t) cut.Post Inv-loop μ-loop
+  element-copy-out-piece c = walk-engine (c .before .loop .inv .walk) (c .loop-test .taken)
+
+  pub same-length : cut-lts.Need-same-length (cut-claims t) (cut-at t) cut.Post Inv-loop μ-loop
+  same-length c = ap length (c .before .before .before .before .loop .inv .walk .same)
+
+  pub returns : cut-lts.Need-returns (cut-claims t) (cut-at t) cut.Post Inv-loop μ-loop
+  returns c = loop-stops (c .before .before .before .before .loop .inv) (c .before .before .before .loop-test .taken) (c .before .if1 .taken) (c .if2 .taken)
+
+  pub cut-requires : cut-lts.Need-cut-requires (cut-claims t) (cut-at t) cut.Post Inv-loop μ-loop
+  cut-requires c κs = loop-cuts (c .before .before .before .before .loop .inv) (c .before .before .before .loop-test .taken) (c .before .if1 .taken)
+
+  pub add-choose : cut-lts.Need-add-choose (cut-claims t) (cut-at t) cut.Post Inv-loop μ-loop
+  add-choose c = omega (arith, c .before .before .before .before .before .loop .inv .walk .allowed, c .before .if2 .left, c .before .before .before .before .before .before .before .fits .allowance)
+
+  pub choose-requires : cut-lts.Need-choose-requires (cut-claims t) (cut-at t) cut.Post Inv-loop μ-loop
+  choose-requires c κs =
+      let turn = c .before .before .before .before .before in
+      let asks =
+      loop-asks (turn .before .loop .inv) (turn .loop-test .taken) (c .before .before .before .if1 .taken) (c .before .before .if2 .left) _
+      (c .before .cut .ensures) in
+      (omega (arith, asks .0, turn .before .before .before .pre .0), asks .1)
+
+  pub enum-known-ended : cut-lts.Need-enum-known-ended (cut-claims t) (cut-at t) cut.Post Inv-loop μ-loop
+  enum-known-ended c = search needs
+
+  pub wide-requires : cut-lts.Need-wide-requires (cut-claims t) (cut-at t) cut.Post Inv-loop μ-loop
+  wide-requires c κs = search needs
+
+  pub mul-table : cut-lts.Need-mul-table (cut-claims t) (cut-at t) cut.Post Inv-loop μ-loop
+  mul-table c = let called = c .before .before .before .before .before .before in omega (arith, cell-inside called, start-of called .good .1 .1 .1 .1 .1 .1 .1 .1 .1 .1 .0)
+
+  pub add-table : cut-lts.Need-add-table (cut-claims t) (cut-at t) cut.Post Inv-loop μ-loop
+  add-table c = let called = c .before .before .before .before .before .before in omega (arith, cell-inside called, start-of called .good .1 .1 .1 .1 .1 .1 .1 .1 .1 .1 .0)
+
+  pub mul-table-2 : cut-lts.Need-mul-table-2 (cut-claims t) (cut-at t) cut.Post Inv-loop μ-loop
+  mul-table-2 c = let called = c .before .before .before .before .before .before in omega (arith, cell-inside called, start-of called .good .1 .1 .1 .1 .1 .1 .1 .1 .1 .1 .0)
+
+  pub slice-write-table : cut-lts.Need-slice-write-table (cut-claims t) (cut-at t) cut.Post Inv-loop μ-loop
+  slice-write-table c = let called = c .before .before .before .before .before .before in omega (arith, cell-inside called, same-table called)
+
+  pub same-length-2 : cut-lts.Need-same-length-2 (cut-claims t) (cut-at t) cut.Post Inv-loop μ-loop
+  same-length-2 c = simp length-set (same-table (c .before .before .before .before .before .before))
+
+  pub returns-2 : cut-lts.Need-returns-2 (cut-claims t) (cut-at t) cut.Post Inv-loop μ-loop
+  returns-2 c =
+      let called = c .before .before .before .before .before .before in
+      loop-finds (turn-of called .before .loop .inv) (turn-of called .loop-test .taken) (called .before .before .before .before .if1 .taken)
+      (called .before .before .before .if2 .left) _ (called .before .before .cut .ensures) (called .choose .ensures)
+      (c .before .before .ended .given .1) (c .wide .ensures)
+
+  pub enum-known-ended-2 : cut-lts.Need-enum-known-ended-2 (cut-claims t) (cut-at t) cut.Post Inv-loop μ-loop
+  enum-known-ended-2 c = search needs
+
+  pub same-length-3 : cut-lts.Need-same-length-3 (cut-claims t) (cut-at t) cut.Post Inv-loop μ-loop
+  same-length-3 c = same-table (c .before .before .before .before .before)
+
+  pub returns-3 : cut-lts.Need-returns-3 (cut-claims t) (cut-at t) cut.Post Inv-loop μ-loop
+  returns-3 c =
+      let called = c .before .before .before .before .before in
+      loop-halts (turn-of called .before .loop .inv) (turn-of called .loop-test .taken) (called .before .before .before .before .if1 .taken)
+      (called .before .before .before .if2 .left) _ (called .before .before .cut .ensures) (called .choose .ensures)
+      (c .before .ended2 .given .1)
+
+  pub enum-known-ended-3 : cut-lts.Need-enum-known-ended-3 (cut-claims t) (cut-at t) cut.Post Inv-loop μ-loop
+  enum-known-ended-3 c = search needs
+
+  pub cast-set : cut-lts.Need-cast-set (cut-claims t) (cut-at t) cut.Post Inv-loop μ-loop
+  cast-set c = omega (arith, walk-engine (c .before .before .before .loop .inv .walk) (c .before .before .loop-test .taken))
+
+  pub shl-set : cut-lts.Need-shl-set (cut-claims t) (cut-at t) cut.Post Inv-loop μ-loop
+  shl-set c = omega (arith, walk-engine (c .before .before .before .loop .inv .walk) (c .before .before .loop-test .taken))
+
+  pub sub-set : cut-lts.Need-sub-set (cut-claims t) (cut-at t) cut.Post Inv-loop μ-loop
+  sub-set c = walk-power (c .before .before .before .loop .inv .walk) (c .before .before .loop-test .taken)
+
+  pub loop-less : cut-lts.Need-loop-less (cut-claims t) (cut-at t) cut.Post Inv-loop μ-loop
+  loop-less c = walk-less (c .before .before .before .loop .inv .walk) (c .before .before .loop-test .taken)
+
+  pub loop-again : cut-lts.Need-loop-again (cut-claims t) (cut-at t) cut.Post Inv-loop μ-loop
+  loop-again c =
+      let turn = c .before .before in
+      ⊎-elim
+      (λ w.
+      rw (w .10, w .11)
+      (loop-goes-on (turn .before .loop .inv) (turn .loop-test .taken) (w .0 .taken) (w .1 .left) _ (w .2 .ensures) (w .4 .ensures) (w .8 .given .1)))
+      (λ w. rw (w .1, w .2) (loop-passes (turn .before .loop .inv) (turn .loop-test .taken) (w .0 .left)))
+      (c .if1 .came)
+
+  pub same-length-4 : cut-lts.Need-same-length-4 (cut-claims t) (cut-at t) cut.Post Inv-loop μ-loop
+  same-length-4 c = ap length (c .before .loop .inv .walk .same)
+
+  pub returns-4 : cut-lts.Need-returns-4 (cut-claims t) (cut-at t) cut.Post Inv-loop μ-loop
+  returns-4 c = walk-ends (c .before .loop .inv .walk) (c .loop-test .left)

@@ -1,0 +1,192 @@
+-- `State::cut` meets its contract. The engine and the delivery are members of their sets, and the engine does not serve the delivery
+-- yet, so nothing wraps; the state returned is the one that the laws of cutting speak of.
+-- Assumes nothing.
+use Prim.Native.Nat.{ℕ, _+_, _-_, _*_, _%_, _^_, _<_}
+use mathlib.Core.Path.{_≡_, refl, ap}
+use native.Mathlib.Omega.{arith}
+use borrow.Author.Needs.{needs}
+use lib.ListN.{set}
+use Rattle.planning.specs.Search.{at}
+use Rattle.allocation.specs.Laws.Sets.{shifted, shifted-le, with-below}
+use Rattle.allocation.specs.Laws.Layout.Cutting.{cut-off}
+use Rattle.allocation.specs.Laws.Layout.Serving.{open-serves-none, serving-below}
+use Rattle.allocation.proofs.state.State.cut.Statement.{statement}
+use Rattle.allocation.proofs.state.State.cut.Tie as tie
+
+engine-below : (c : tie.Start) → c .args .i < 12
+engine-below c = c .pre .kept .engines .below (c .args .i) (c .pre .engine)
+
+delivery-below : (c : tie.Start) → c .args .row < 64
+delivery-below c = c .pre .kept .deliveries .inRange (c .args .row) (c .pre .picked .isLeft) .0
+
+engine-bit : (c : tie.Start) → 1 * 2 ^ (c .args .i) % 2 ^ 16 ≡ 2 ^ (c .args .i)
+engine-bit c = shifted 16 (c .args .i) (omega (arith, engine-below c))
+
+mul-piece : tie.Need-mul-piece
+mul-piece c = omega (arith, engine-below c)
+
+element-copy-out-piece : tie.Need-element-copy-out-piece
+element-copy-out-piece c = engine-below c
+
+cast-self : tie.Need-cast-self
+cast-self c = omega (arith, engine-below (c .before))
+
+shl-self : tie.Need-shl-self
+shl-self c = omega (arith, engine-below (c .before))
+
+sub-self : tie.Need-sub-self
+sub-self c =
+    shifted-le 16 (c .before .args .t1 .«open») (c .before .args .i) (omega (arith, engine-below (c .before))) (c .before .pre .engine)
+
+sub-self-2 : tie.Need-sub-self-2
+sub-self-2 c = search needs
+
+mul-self : tie.Need-mul-self
+mul-self c = search needs
+
+element-write-self : tie.Need-element-write-self
+element-write-self c = search needs
+
+mul-self-2 : tie.Need-mul-self-2
+mul-self-2 c = search needs
+
+element-copy-out-self : tie.Need-element-copy-out-self
+element-copy-out-self c = search needs
+
+cast-self-2 : tie.Need-cast-self-2
+cast-self-2 c = omega (arith, engine-below (c .before .before .before))
+
+shl-self-2 : tie.Need-shl-self-2
+shl-self-2 c = omega (arith, engine-below (c .before .before .before))
+
+add-self : tie.Need-add-self
+add-self c =
+    let start = c .before .before .before in
+    let s = start .args .t1 in
+    let engines = start .pre .kept .engines in
+    let taken = c .before .if1 .taken in
+    record {
+      fits =
+          rw (engine-bit start)
+          (with-below 16 (at (s .served) (start .args .slot)) (start .args .i) (serving-below (s .«open») (s .amount) (s .served) engines (start .args .slot) taken)
+          (omega (arith, engine-below start))
+          (open-serves-none (s .«open») (s .amount) (s .served) engines (start .args .slot) (start .args .i) taken (start .pre .engine)));
+    }
+
+mul-self-3 : tie.Need-mul-self-3
+mul-self-3 c = search needs
+
+element-write-self-2 : tie.Need-element-write-self-2
+element-write-self-2 c = search needs
+
+shl-self-3 : tie.Need-shl-self-3
+shl-self-3 c = delivery-below (c .before .before)
+
+-- a delivery without a slot is untouched
+no-slot : (c : tie.Else1) → c .before .before .args .slot ≡ 12
+no-slot c = omega (arith, c .if1 .left, c .before .before .pre .picked .isSlot .most)
+
+sub-self-3 : tie.Need-sub-self-3
+sub-self-3 c =
+    shifted-le 64 (c .before .before .args .t1 .untouched) (c .before .before .args .row) (delivery-below (c .before .before))
+    (c .before .before .pre .picked .isSlot .none (no-slot c))
+
+sub-self-4 : tie.Need-sub-self-4
+sub-self-4 c = search needs
+
+mul-self-4 : tie.Need-mul-self-4
+mul-self-4 c = omega (arith, engine-below (c .before .before))
+
+element-write-self-3 : tie.Need-element-write-self-3
+element-write-self-3 c = engine-below (c .before .before)
+
+cast-self-3 : tie.Need-cast-self-3
+cast-self-3 c = omega (arith, engine-below (c .before .before))
+
+shl-self-4 : tie.Need-shl-self-4
+shl-self-4 c = omega (arith, engine-below (c .before .before))
+
+mul-self-5 : tie.Need-mul-self-5
+mul-self-5 c = omega (arith, engine-below (c .before .before))
+
+element-write-self-4 : tie.Need-element-write-self-4
+element-write-self-4 c = engine-below (c .before .before)
+
+cast-self-4 : tie.Need-cast-self-4
+cast-self-4 c = omega (arith, delivery-below (c .before .before))
+
+element-write-self-5 : tie.Need-element-write-self-5
+element-write-self-5 c = engine-below (c .before .before)
+
+returns : tie.Need-returns
+returns c energy limit kept picked several =
+    let start = c .before .before .before in
+    let s = start .args .t1 in
+    cut-off energy limit s _ (start .args .row) (start .args .slot) (start .args .rest) (start .args .i) kept picked several
+    (start .pre .engine) (start .pre .below)
+    (record {
+      isLeft = refl;
+      isUntouched = record { begun = λ l. refl; fresh = λ z. absurd (omega (arith, c .before .if1 .taken)) };
+      isOpen = ap (λ (n : ℕ). s .«open» - n) (engine-bit start);
+      begunAmount = λ l. refl;
+      begunServed = λ l. ap (λ (n : ℕ). set (s .served) (start .args .slot) (at (s .served) (start .args .slot) + n)) (engine-bit start);
+      begunRow = λ l. refl;
+      freshAmount = λ z. absurd (omega (arith, c .before .if1 .taken));
+      freshServed = λ z. absurd (omega (arith, c .before .if1 .taken));
+      freshRow = λ z. absurd (omega (arith, c .before .if1 .taken));
+    })
+
+returns-2 : tie.Need-returns-2
+returns-2 c energy limit kept picked several =
+    let start = c .before .before in
+    let s = start .args .t1 in
+    cut-off energy limit s _ (start .args .row) (start .args .slot) (start .args .rest) (start .args .i) kept picked several
+    (start .pre .engine) (start .pre .below)
+    (record {
+      isLeft = refl;
+      isUntouched =
+          record {
+            begun = λ l. absurd (omega (arith, c .if1 .left));
+            fresh = λ z. ap (λ (n : ℕ). s .untouched - n) (shifted 64 (start .args .row) (delivery-below start));
+          };
+      isOpen = ap (λ (n : ℕ). s .«open» - n) (engine-bit start);
+      begunAmount = λ l. absurd (omega (arith, c .if1 .left));
+      begunServed = λ l. absurd (omega (arith, c .if1 .left));
+      begunRow = λ l. absurd (omega (arith, c .if1 .left));
+      freshAmount = λ z. refl;
+      freshServed = λ z. ap (λ (n : ℕ). set (s .served) (start .args .i) n) (engine-bit start);
+      freshRow = λ z. refl;
+    })
+
+pub cut-spec : {M : Type 1} → statement M
+cut-spec =
+    tie.close
+    (tie.spec
+    mul-piece
+    element-copy-out-piece
+    cast-self
+    shl-self
+    sub-self
+    sub-self-2
+    mul-self
+    element-write-self
+    mul-self-2
+    element-copy-out-self
+    cast-self-2
+    shl-self-2
+    add-self
+    mul-self-3
+    element-write-self-2
+    shl-self-3
+    sub-self-3
+    sub-self-4
+    mul-self-4
+    element-write-self-3
+    cast-self-3
+    shl-self-4
+    mul-self-5
+    element-write-self-4
+    cast-self-4
+    element-write-self-5
+    returns
+    returns-2)
