@@ -3,7 +3,9 @@
 pub mod Bytes
 pub mod Text
 pub mod Grammar
+pub mod Measures
 pub mod Records
+pub mod Spans
 pub mod Fields
 pub mod Writer
 pub mod Laws

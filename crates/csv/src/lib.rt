@@ -1,6 +1,19 @@
-// RFC 4180, the format of CSV files. The definitions and their laws stand in specs/.
+// RFC 4180, the format of CSV files: byte classes, where records and fields end, the values of fields, and the writer. It knows nothing
+// of what the fields mean. The definitions and their laws stand in specs/.
+mod bytes;
+mod fields;
+mod records;
+mod writer;
 
-// what a byte is in the grammar of RFC 4180: its terminals, and Refused for a byte that stands nowhere in a file
+pub use bytes::class_of;
+pub use fields::field_at;
+pub use fields::form_of;
+pub use fields::part_of;
+pub use fields::undo;
+pub use records::record_at;
+pub use writer::write_field;
+
+// What a byte is in the grammar of RFC 4180: its terminals, and Refused for a byte that stands nowhere in a file.
 pub enum ByteClass {
     Text,
     Quote,
@@ -8,4 +21,39 @@ pub enum ByteClass {
     CarriageReturn,
     LineFeed,
     Refused,
+}
+
+// Where the text of a record ends, and where the next record begins. A record that no CR LF ends reaches to the end of the file.
+pub struct RecordSpan {
+    pub end: usize,
+    pub next: usize,
+    pub ended: bool,
+}
+
+// Where a raw field ends, and whether a comma stands there and a further field behind it.
+pub struct FieldSpan {
+    pub end: usize,
+    pub more: bool,
+}
+
+// What a raw field is: no field of the grammar; a field whose value is a part of it; or one with doubled quotes, to be undone.
+pub enum FieldForm {
+    Broken,
+    Part,
+    Doubled,
+}
+
+// What undoing a field's doubled quotes comes to: the length of the value, which stands at the front of the lent buffer; that it does
+// not fit there; or that the text is no field.
+pub enum Undone {
+    Length(usize),
+    TooLong,
+    Broken,
+}
+
+// What writing a field comes to: the place behind it; that the value holds a byte which RFC 4180 has nowhere; or that it does not fit.
+pub enum Wrote {
+    Next(usize),
+    Refused,
+    TooLong,
 }

@@ -1,11 +1,11 @@
 -- The class of a byte says what the byte is in the grammar, and the grammar's bytes have the classes named after them.
 -- Assumes nothing.
 use mathlib.Core.Path.{_≡_, refl, subst}
-use Prim.Native.Nat.{ℕ, _≤_}
+use Prim.Native.Nat.{ℕ, _≤_, _<_}
 use mathlib.Core.Bool.{Bool, true, false, cond, _||_, and-eq-true-iff}
 use native.Mathlib.Omega.{arith}
 use lib.Dec.{leb, eqb}
-use borrow.Author.Tests.{leb-true, eqb-true, le-leb, lt-leb, ne-eqb}
+use borrow.Author.Tests.{leb-true, leb-false, eqb-true, le-leb, lt-leb, ne-eqb}
 use Rattle.csv.specs.declared.ByteClass.{ByteClass}
 use Rattle.csv.specs.declared.ByteClass.the-variants.{Text, Quote, Comma, CarriageReturn, LineFeed, Refused}
 use Rattle.csv.specs.Bytes.{quote, comma, carriageReturn, lineFeed, inRange, classOf}
@@ -71,3 +71,26 @@ pub text-no-cr : {b : ℕ} → TextData b → eqb b carriageReturn ≡ false
 text-no-cr {b} (text-20-21 p q) = ne-eqb b carriageReturn (omega arith)
 text-no-cr {b} (text-23-2B p q) = ne-eqb b carriageReturn (omega arith)
 text-no-cr {b} (text-2D-7E p q) = ne-eqb b carriageReturn (omega arith)
+
+-- TEXTDATA goes from 20 up to 7F, without 7F, the quote and the comma
+pub text-range : (b : ℕ) → 0x20 ≤ b → b < 0x7F → (b ≡ quote → ⊥) → (b ≡ comma → ⊥) → TextData b
+text-range b low high not-quote not-comma = go (leb b 0x21) (leb b 0x2B) refl refl
+  where
+    go : (s t : Bool) → leb b 0x21 ≡ s → leb b 0x2B ≡ t → TextData b
+    go true t p q = text-20-21 low (leb-true b 0x21 p)
+    go false true p q = text-23-2B {b = b} (omega (arith, leb-false b 0x21 p)) (leb-true b 0x2B q)
+    go false false p q = text-2D-7E {b = b} (omega (arith, leb-false b 0x2B q)) (omega arith)
+
+-- a byte with no name below 20, or above 7E, is refused
+pub low-refused : (b : ℕ) → b < 0x20 → (b ≡ carriageReturn → ⊥) → (b ≡ lineFeed → ⊥) → classOf b ≡ Refused
+unfolding classOf
+low-refused b low not-cr not-lf =
+    rw (lt-leb 0x20 b low, lt-leb 0x23 b (omega arith), lt-leb 0x2D b (omega arith))
+    (rw (ne-eqb b quote (omega arith), ne-eqb b comma (omega arith), ne-eqb b carriageReturn not-cr, ne-eqb b lineFeed not-lf))
+
+pub high-refused : (b : ℕ) → 0x7F ≤ b → classOf b ≡ Refused
+unfolding classOf
+high-refused b high =
+    rw (le-leb 0x20 b (omega arith), le-leb 0x23 b (omega arith), le-leb 0x2D b (omega arith))
+    (rw (lt-leb b 0x21 (omega arith), lt-leb b 0x2B (omega arith), lt-leb b 0x7E (omega arith))
+    (rw (ne-eqb b quote (omega arith), ne-eqb b comma (omega arith), ne-eqb b carriageReturn (omega arith), ne-eqb b lineFeed (omega arith))))

@@ -129,7 +129,8 @@ is-text b CarriageReturn p e = absurd (false≢true e)
 is-text b LineFeed p e = absurd (false≢true e)
 is-text b Refused p e = absurd (false≢true e)
 
-text-only : (text : List ℕ) → allText text ≡ true → NonEscaped text
+-- bytes that are all text
+pub text-only : (text : List ℕ) → allText text ≡ true → NonEscaped text
 unfolding allText
 text-only [] e = non-escaped-end
 text-only (b ∷ rest) e =

@@ -66,6 +66,7 @@ module _ (t : ℕ) where
   pub same-length : choose-lts.Need-same-length (choose-claims t) (choose-at t) choose.Post
   same-length c = search needs
 
+  -- B: found, with no piece
   pub returns : choose-lts.Need-returns (choose-claims t) (choose-at t) choose.Post
   unfolding stepOfTurn
   returns c =
@@ -77,6 +78,7 @@ module _ (t : ℕ) where
   pub same-length-2 : choose-lts.Need-same-length-2 (choose-claims t) (choose-at t) choose.Post
   same-length-2 c = search needs
 
+  -- E: found by straight fill
   pub returns-2 : choose-lts.Need-returns-2 (choose-claims t) (choose-at t) choose.Post
   unfolding stepOfTurn perform stateOf endedOf written
   returns-2 c =
@@ -86,6 +88,7 @@ module _ (t : ℕ) where
   pub same-length-3 : choose-lts.Need-same-length-3 (choose-claims t) (choose-at t) choose.Post
   same-length-3 c = search needs
 
+  -- D
   pub returns-3 : choose-lts.Need-returns-3 (choose-claims t) (choose-at t) choose.Post
   unfolding stepOfTurn
   returns-3 c =
@@ -95,6 +98,7 @@ module _ (t : ℕ) where
   pub same-length-4 : choose-lts.Need-same-length-4 (choose-claims t) (choose-at t) choose.Post
   same-length-4 c = search needs
 
+  -- F
   pub returns-4 : choose-lts.Need-returns-4 (choose-claims t) (choose-at t) choose.Post
   unfolding stepOfTurn
   returns-4 c =

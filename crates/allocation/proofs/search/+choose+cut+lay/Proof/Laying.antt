@@ -58,6 +58,7 @@ module _ (t : ℕ) where
   pub same-length : lay-lts.Need-same-length (lay-claims t) (lay-at t) lay.Post Inv-loop μ-loop
   same-length c = ap length (c .before .before .before .before .loop .inv .walk .same)
 
+  -- the allowance is used up
   pub returns : lay-lts.Need-returns (lay-claims t) (lay-at t) lay.Post Inv-loop μ-loop
   returns c = loop-stops (c .before .before .before .before .loop .inv) (c .before .before .before .loop-test .taken) (c .before .if1 .taken) (c .if2 .taken)
 
@@ -65,7 +66,9 @@ module _ (t : ℕ) where
   lay-requires c κs = loop-lays (c .before .before .before .before .loop .inv) (c .before .before .before .loop-test .taken) (c .before .if1 .taken)
 
   pub add-choose : lay-lts.Need-add-choose (lay-claims t) (lay-at t) lay.Post Inv-loop μ-loop
-  add-choose c = omega (arith, c .before .before .before .before .before .loop .inv .walk .allowed, c .before .if2 .left, c .before .before .before .before .before .before .before .fits .allowance)
+  add-choose c =
+      let at-loop = c .before .before .before .before .before in
+      omega (arith, at-loop .loop .inv .walk .allowed, c .before .if2 .left, at-loop .before .before .fits .allowance)
 
   pub choose-requires : lay-lts.Need-choose-requires (lay-claims t) (lay-at t) lay.Post Inv-loop μ-loop
   choose-requires c κs =
@@ -82,20 +85,29 @@ module _ (t : ℕ) where
   wide-requires c κs = search needs
 
   pub mul-table : lay-lts.Need-mul-table (lay-claims t) (lay-at t) lay.Post Inv-loop μ-loop
-  mul-table c = let called = c .before .before .before .before .before .before in omega (arith, cell-inside called, start-of called .good .1 .1 .1 .1 .1 .1 .1 .1 .1 .1 .0)
+  mul-table c =
+      let called = c .before .before .before .before .before .before in
+      omega (arith, cell-inside called, start-of called .good .1 .1 .1 .1 .1 .1 .1 .1 .1 .1 .0)
 
   pub add-table : lay-lts.Need-add-table (lay-claims t) (lay-at t) lay.Post Inv-loop μ-loop
-  add-table c = let called = c .before .before .before .before .before .before in omega (arith, cell-inside called, start-of called .good .1 .1 .1 .1 .1 .1 .1 .1 .1 .1 .0)
+  add-table c =
+      let called = c .before .before .before .before .before .before in
+      omega (arith, cell-inside called, start-of called .good .1 .1 .1 .1 .1 .1 .1 .1 .1 .1 .0)
 
   pub mul-table-2 : lay-lts.Need-mul-table-2 (lay-claims t) (lay-at t) lay.Post Inv-loop μ-loop
-  mul-table-2 c = let called = c .before .before .before .before .before .before in omega (arith, cell-inside called, start-of called .good .1 .1 .1 .1 .1 .1 .1 .1 .1 .1 .0)
+  mul-table-2 c =
+      let called = c .before .before .before .before .before .before in
+      omega (arith, cell-inside called, start-of called .good .1 .1 .1 .1 .1 .1 .1 .1 .1 .1 .0)
 
   pub slice-write-table : lay-lts.Need-slice-write-table (lay-claims t) (lay-at t) lay.Post Inv-loop μ-loop
-  slice-write-table c = let called = c .before .before .before .before .before .before in omega (arith, cell-inside called, same-table called)
+  slice-write-table c =
+      let called = c .before .before .before .before .before .before in
+      omega (arith, cell-inside called, same-table called)
 
   pub same-length-2 : lay-lts.Need-same-length-2 (lay-claims t) (lay-at t) lay.Post Inv-loop μ-loop
   same-length-2 c = simp length-set (same-table (c .before .before .before .before .before .before))
 
+  -- the try ends in found
   pub returns-2 : lay-lts.Need-returns-2 (lay-claims t) (lay-at t) lay.Post Inv-loop μ-loop
   returns-2 c =
       let called = c .before .before .before .before .before .before in
@@ -109,6 +121,7 @@ module _ (t : ℕ) where
   pub same-length-3 : lay-lts.Need-same-length-3 (lay-claims t) (lay-at t) lay.Post Inv-loop μ-loop
   same-length-3 c = same-table (c .before .before .before .before .before)
 
+  -- the try is stopped
   pub returns-3 : lay-lts.Need-returns-3 (lay-claims t) (lay-at t) lay.Post Inv-loop μ-loop
   returns-3 c =
       let called = c .before .before .before .before .before in
@@ -131,6 +144,7 @@ module _ (t : ℕ) where
   pub loop-less : lay-lts.Need-loop-less (lay-claims t) (lay-at t) lay.Post Inv-loop μ-loop
   loop-less c = walk-less (c .before .before .before .loop .inv .walk) (c .before .before .loop-test .taken)
 
+  -- the try ends in none, or the engine is not tried
   pub loop-again : lay-lts.Need-loop-again (lay-claims t) (lay-at t) lay.Post Inv-loop μ-loop
   loop-again c =
       let turn = c .before .before in
@@ -144,5 +158,6 @@ module _ (t : ℕ) where
   pub same-length-4 : lay-lts.Need-same-length-4 (lay-claims t) (lay-at t) lay.Post Inv-loop μ-loop
   same-length-4 c = ap length (c .before .loop .inv .walk .same)
 
+  -- no engine is left
   pub returns-4 : lay-lts.Need-returns-4 (lay-claims t) (lay-at t) lay.Post Inv-loop μ-loop
   returns-4 c = walk-ends (c .before .loop .inv .walk) (c .loop-test .left)

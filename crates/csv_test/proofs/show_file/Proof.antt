@@ -1,0 +1,75 @@
+-- `csv_test::show_file` is safe and ends: each record lies in the file and the next one begins behind it. The measure is what is left of
+-- the file. Assumes nothing.
+use Prim.Native.Nat.{_≤_, _<_, _-_}
+use native.Mathlib.Omega.{arith}
+use lib.ListN.{length}
+use denote.Ref.{now}
+use borrow.Author.Needs.{needs}
+use Rattle.csv.specs.Laws.Bounds.{record-within}
+use Rattle.csv_test.proofs.show_file.Statement.{statement}
+use Rattle.csv_test.proofs.show_file.Tie as tie
+
+abbrev Inv-loop : tie.InvT-loop
+Inv-loop file from₀ from = from ≤ length file
+
+abbrev μ-loop : tie.MeasureT-loop
+μ-loop file from₀ from = length file - from
+
+-- the record lies in the file, and the next one begins behind it
+within : (c : tie.After-record-at Inv-loop μ-loop)
+    → let file = now (c .before .before .before .before .before .args .file) in
+    let record-span = c .record-at .result in
+    (c .before .loop .from ≤ record-span .end) × (record-span .end ≤ record-span .next) × (record-span .next ≤ length file)
+    × (record-span .next < length file → c .before .loop .from < record-span .next)
+within c = rw (c .record-at .ensures) (record-within _ _ (c .before .loop .inv))
+
+slice-aggregate-print : tie.Need-slice-aggregate-print Inv-loop μ-loop
+slice-aggregate-print c = search needs
+
+print-requires : tie.Need-print-requires Inv-loop μ-loop
+print-requires c κs = search needs
+
+loop-holds : tie.Need-loop-holds Inv-loop μ-loop
+loop-holds c = search needs
+
+record-at-requires : tie.Need-record-at-requires Inv-loop μ-loop
+record-at-requires c κs = search needs
+
+sub-show-record : tie.Need-sub-show-record Inv-loop μ-loop
+sub-show-record c = omega (arith, within c)
+
+part-show-record-start : tie.Need-part-show-record-start Inv-loop μ-loop
+part-show-record-start c = omega (arith, within c)
+
+part-show-record-end : tie.Need-part-show-record-end Inv-loop μ-loop
+part-show-record-end c = omega (arith, within c)
+
+show-record-requires : tie.Need-show-record-requires Inv-loop μ-loop
+show-record-requires c κs = search needs
+
+returns : tie.Need-returns Inv-loop μ-loop
+returns c = search needs
+
+loop-less : tie.Need-loop-less Inv-loop μ-loop
+loop-less c = omega (arith, within (c .before .before .before) .3 (c .if1 .left))
+
+loop-again : tie.Need-loop-again Inv-loop μ-loop
+loop-again c = search needs
+
+pub show-file-spec : {M : Type 1} → statement M
+show-file-spec =
+    tie.close
+    (tie.spec
+    Inv-loop
+    μ-loop
+    slice-aggregate-print
+    print-requires
+    loop-holds
+    record-at-requires
+    sub-show-record
+    part-show-record-start
+    part-show-record-end
+    show-record-requires
+    returns
+    loop-less
+    loop-again)

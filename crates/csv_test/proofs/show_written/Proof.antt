@@ -1,0 +1,97 @@
+-- `csv_test::show_written` is safe: a field that is written lies in the output. Assumes nothing.
+use mathlib.Core.Path.{sym, _∙_}
+use Prim.Native.Nat.{_≤_}
+use native.Mathlib.Omega.{arith}
+use borrow.Author.Needs.{needs}
+use Rattle.csv.specs.Laws.Bounds.{wrote-within}
+use Rattle.csv_test.proofs.show_written.Statement.{statement}
+use Rattle.csv_test.proofs.show_written.Tie as tie
+
+-- the field lies in the output
+within : (c : tie.After-wrote) → (2 ≤ c .wrote .given .0 .0) × (c .wrote .given .0 .0 ≤ 24)
+within c = wrote-within _ _ _ _ (sym (c .wrote .given .1) ∙ c .before .before .before .before .before .write-field .ensures .0)
+
+slice-aggregate-print : tie.Need-slice-aggregate-print
+slice-aggregate-print c = search needs
+
+print-requires : tie.Need-print-requires
+print-requires c κs = search needs
+
+slice-aggregate-write-field : tie.Need-slice-aggregate-write-field
+slice-aggregate-write-field c = search needs
+
+write-field-requires : tie.Need-write-field-requires
+write-field-requires c κs = search needs
+
+slice-aggregate-show : tie.Need-slice-aggregate-show
+slice-aggregate-show c = search needs
+
+show-requires : tie.Need-show-requires
+show-requires c κs = search needs
+
+enum-known-wrote : tie.Need-enum-known-wrote
+enum-known-wrote c = search needs
+
+sub-show-undone : tie.Need-sub-show-undone
+sub-show-undone c = omega (arith, within (c .before))
+
+part-show-undone-start : tie.Need-part-show-undone-start
+part-show-undone-start c = omega (arith, within (c .before .before))
+
+part-show-undone-end : tie.Need-part-show-undone-end
+part-show-undone-end c = omega (arith, within (c .before .before), c .before .before .before .before .before .before .before .write-field .kept .1 .0)
+
+show-undone-requires : tie.Need-show-undone-requires
+show-undone-requires c κs = search needs
+
+enum-told : tie.Need-enum-told
+enum-told c = search needs
+
+slice-aggregate-print-2 : tie.Need-slice-aggregate-print-2
+slice-aggregate-print-2 c = search needs
+
+print-requires-2 : tie.Need-print-requires-2
+print-requires-2 c κs = search needs
+
+enum-told-2 : tie.Need-enum-told-2
+enum-told-2 c = search needs
+
+slice-aggregate-print-3 : tie.Need-slice-aggregate-print-3
+slice-aggregate-print-3 c = search needs
+
+print-requires-3 : tie.Need-print-requires-3
+print-requires-3 c κs = search needs
+
+returns : tie.Need-returns
+returns c = search needs
+
+returns-2 : tie.Need-returns-2
+returns-2 c = search needs
+
+returns-3 : tie.Need-returns-3
+returns-3 c = search needs
+
+pub show-written-spec : {M : Type 1} → statement M
+show-written-spec =
+    tie.close
+    (tie.spec
+    slice-aggregate-print
+    print-requires
+    slice-aggregate-write-field
+    write-field-requires
+    slice-aggregate-show
+    show-requires
+    enum-known-wrote
+    sub-show-undone
+    part-show-undone-start
+    part-show-undone-end
+    show-undone-requires
+    enum-told
+    slice-aggregate-print-2
+    print-requires-2
+    enum-told-2
+    slice-aggregate-print-3
+    print-requires-3
+    returns
+    returns-2
+    returns-3)
