@@ -1,0 +1,177 @@
+// Time per try of the proved allocation beside a plain Rust program with the same answers, in one process. The plain program's state is
+// handed on by value, holds 64 rests and limits, and its choice is a scan.
+use std::time::Instant;
+
+extern "C" {
+    fn fothwen_allocate(
+        mode: u64, minutes: u64, allowance: u64,
+        watts: *const u64, watts_len: usize, fuels: *const u64, fuels_len: usize,
+        energies: *const u64, energies_len: usize, limits: *const u64, limits_len: usize,
+        table: *mut u64, table_len: usize, spare: *mut u64, spare_len: usize,
+    ) -> u64;
+}
+
+struct Plan { name: &'static str, minutes: u64, allowance: u64, watts: Vec<u64>, fuels: Vec<u64>, energies: Vec<u64>, limits: Vec<u64> }
+
+#[derive(PartialEq, Debug, Clone)]
+struct Answer { word: u64, minutes: u64, tries: u64, table: Vec<u64> }
+
+fn proved(p: &Plan) -> Answer {
+    let mut table = vec![7u64; p.watts.len() * p.energies.len()];
+    let mut spare = vec![8u64; p.watts.len()];
+    let r = unsafe {
+        fothwen_allocate(0, p.minutes, p.allowance, p.watts.as_ptr(), p.watts.len(), p.fuels.as_ptr(), p.fuels.len(),
+            p.energies.as_ptr(), p.energies.len(), p.limits.as_ptr(), p.limits.len(),
+            table.as_mut_ptr(), table.len(), spare.as_mut_ptr(), spare.len())
+    };
+    Answer { word: r % 4, minutes: r / 4 % 16384, tries: r / 4 / 16384, table }
+}
+
+mod plain {
+    use super::{Answer, Plan};
+
+    #[derive(Clone, Copy)]
+    struct State { remaining: [u32; 12], rest: [u32; 64], limit: [u8; 64] }
+
+    enum Ended { Found(u32), None(u32), Stopped(u32) }
+
+    struct Search { engines: usize, deliveries: usize, allowance: u32 }
+
+    impl State {
+        fn lay(mut self, p: usize, i: usize) -> State {
+            self.remaining[i] -= self.rest[p];
+            self.rest[p] = 0;
+            self
+        }
+
+        fn cut(mut self, p: usize, i: usize) -> State {
+            self.rest[p] -= self.remaining[i];
+            self.limit[p] -= 1;
+            self.remaining[i] = 0;
+            self
+        }
+
+        fn bulkier(&self, p: usize, q: usize) -> bool {
+            let (rp, lp, rq, lq) = (self.rest[p] as u64, self.limit[p] as u64, self.rest[q] as u64, self.limit[q] as u64);
+            match (lp == 1, lq == 1) {
+                (true, true) => rp > rq,
+                (true, false) => true,
+                (false, true) => false,
+                (false, false) => rp * (lq - 1) > rq * (lp - 1),
+            }
+        }
+
+        fn bulkiest(&self, n: usize) -> Option<usize> {
+            let mut best = None;
+            for p in 0..n {
+                if self.rest[p] > 0 && best.map_or(true, |q| self.bulkier(p, q)) {
+                    best = Some(p);
+                }
+            }
+            best
+        }
+    }
+
+    impl Search {
+        fn fill(&self, s: &State, table: &mut [u64]) {
+            let mut remaining = s.remaining;
+            for p in 0..self.deliveries {
+                let mut rest = s.rest[p];
+                for i in 0..self.engines {
+                    let piece = rest.min(remaining[i]);
+                    table[p * self.engines + i] = piece as u64;
+                    rest -= piece;
+                    remaining[i] -= piece;
+                }
+            }
+        }
+
+        fn run(&self, s: State, mut made: u32, table: &mut [u64]) -> Ended {
+            let p = match s.bulkiest(self.deliveries) {
+                None => { table.fill(0); return Ended::Found(made); }
+                Some(p) => p,
+            };
+            let one = s.limit[p] == 1;
+            if !one {
+                let smallest = (0..self.engines).map(|i| s.remaining[i]).filter(|c| *c > 0).min().unwrap_or(0);
+                if s.rest[p] as u64 <= (s.limit[p] as u64 - 1) * smallest as u64 {
+                    self.fill(&s, table);
+                    return Ended::Found(made);
+                }
+            }
+            for i in 0..self.engines {
+                let c = s.remaining[i];
+                let eligible = if one { c >= s.rest[p] } else { c > 0 && c < s.rest[p] };
+                if eligible {
+                    if made == self.allowance { return Ended::Stopped(made); }
+                    let (next, piece) = if one { (s.lay(p, i), s.rest[p]) } else { (s.cut(p, i), c) };
+                    match self.run(next, made + 1, table) {
+                        Ended::Found(t) => { table[p * self.engines + i] = piece as u64; return Ended::Found(t); }
+                        Ended::Stopped(t) => return Ended::Stopped(t),
+                        Ended::None(t) => made = t,
+                    }
+                }
+            }
+            Ended::None(made)
+        }
+    }
+
+    pub fn allocate(p: &Plan) -> Answer {
+        let mut s = State { remaining: [0; 12], rest: [0; 64], limit: [0; 64] };
+        for i in 0..p.watts.len() { s.remaining[i] = (p.watts[i] * p.minutes / 60).min(p.fuels[i]) as u32; }
+        for d in 0..p.energies.len() { s.rest[d] = p.energies[d] as u32; s.limit[d] = p.limits[d] as u8; }
+        let mut table = vec![7u64; p.watts.len() * p.energies.len()];
+        let search = Search { engines: p.watts.len(), deliveries: p.energies.len(), allowance: p.allowance as u32 };
+        let enough = p.energies.iter().sum::<u64>() <= s.remaining.iter().map(|c| *c as u64).sum();
+        let ended = if enough { search.run(s, 0, &mut table) } else { Ended::None(0) };
+        let (word, tries) = match ended { Ended::Found(t) => (0, t), Ended::None(t) => (1, t), Ended::Stopped(t) => (2, t) };
+        Answer { word, minutes: p.minutes, tries: tries as u64, table }
+    }
+}
+
+fn plan(name: &'static str, capacities: Vec<u64>, deliveries: Vec<(u64, u64)>) -> Plan {
+    Plan {
+        name, minutes: 60, allowance: 1_000_000, fuels: vec![1_000_000_000; capacities.len()], watts: capacities,
+        energies: deliveries.iter().map(|d| d.0).collect(), limits: deliveries.iter().map(|d| d.1).collect(),
+    }
+}
+
+fn plans() -> Vec<Plan> {
+    let even = |c: u64| vec![c; 12];
+    let steps: Vec<u64> = (0..12).map(|i| 900 + 17 * i).collect();
+    vec![
+        plan("13 of limit 1 on 12 engines", even(1000), vec![(900, 1); 13]),
+        plan("24 of limit 1, uneven", steps.clone(), (0..24).map(|p| (400 + 5 * p, 1)).collect()),
+        plan("40 of limit 1", even(1000), vec![(300, 1); 40]),
+        plan("64 of limit 1, tight", even(1000), vec![(187, 1); 64]),
+        plan("7 of limit 2", even(1000), vec![(1600, 2); 7]),
+        plan("limits 1 and 2 mixed", even(1000), (0..14).map(|p| if p % 2 == 0 { (700, 1) } else { (990, 2) }).collect()),
+        plan("limits 1, 2 and 3 mixed", steps.clone(), (0..15).map(|p| (760 + 2 * p, 1 + p % 3)).collect()),
+        plan("5 of limit 3, cut over", steps, vec![(2290, 3); 5]),
+    ]
+}
+
+fn nanoseconds(run: impl Fn() -> Answer) -> (f64, Answer) {
+    let mut best = f64::MAX;
+    let mut answer = run();
+    for _ in 0..5 {
+        let start = Instant::now();
+        answer = run();
+        best = best.min(start.elapsed().as_nanos() as f64);
+    }
+    (best / answer.tries.max(1) as f64, answer)
+}
+
+fn main() {
+    let mut product = 1.0;
+    let mut count = 0;
+    println!("{:28} {:>9} {:>8} {:>8} {:>6}", "plan", "tries", "proved", "plain", "ratio");
+    for p in plans() {
+        let (ours, a) = nanoseconds(|| proved(&p));
+        let (theirs, b) = nanoseconds(|| plain::allocate(&p));
+        assert_eq!(a, b, "{}", p.name);
+        println!("{:28} {:>9} {:>8.1} {:>8.1} {:>6.2}", p.name, a.tries, ours, theirs, ours / theirs);
+        if a.tries >= 1000 { product *= ours / theirs; count += 1; }
+    }
+    println!("geometric mean of the ratio over the {} plans of 1,000 tries or more: {:.2}", count, f64::powf(product, 1.0 / count as f64));
+}

@@ -1,0 +1,2 @@
+-- The allocation for programs in other languages.
+pub mod Packed
