@@ -6,5 +6,6 @@ pub mod FilePlan
 pub mod Holding
 pub mod Laws
 pub mod Numerals
+pub mod Parts
 pub mod Print
 pub mod Reading

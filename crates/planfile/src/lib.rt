@@ -1,4 +1,9 @@
-// The types that the call with a plan file speaks of. Their meaning is given in specs/; there are no functions here yet.
+// The plan file: numbers, names and fields of a file, and the types that the call with a file speaks of.
+mod decimal;
+mod entry;
+mod names;
+mod numeral;
+
 use planning::Answer;
 use planning::Refusal;
 

@@ -26,12 +26,13 @@ front-last [] b = refl
 front-last (c ∷ []) b = refl
 front-last (c ∷ d ∷ bytes) b = ap (λ (l : List ℕ). c ∷ l) (front-last (d ∷ bytes) b)
 
-inside-escaped : (inside : List ℕ) → insideOf (quote ∷ inside ++ quote ∷ []) ≡ inside
+-- what stands inside a field: the bytes between the quotes, or all of a text
+pub inside-escaped : (inside : List ℕ) → insideOf (quote ∷ inside ++ quote ∷ []) ≡ inside
 unfolding insideOf
 inside-escaped [] = refl
 inside-escaped (b ∷ inside) = inside-front b (inside ++ quote ∷ []) ∙ front-last (b ∷ inside) quote
 
-inside-text : {text : List ℕ} → NonEscaped text → insideOf text ≡ text
+pub inside-text : {text : List ℕ} → NonEscaped text → insideOf text ≡ text
 unfolding insideOf
 inside-text non-escaped-end = refl
 inside-text (non-escaped-text {b = b} {text = rest} t r) = rw (text-no-quote t) (go (leb 2 (suc (length rest))))

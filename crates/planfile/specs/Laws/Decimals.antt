@@ -7,7 +7,8 @@ use native.Mathlib.Nat.{pow-suc}
 use native.Mathlib.Omega.{arith}
 use mathlib.Core.Bool.{true, false}
 use mathlib.Core.List.{List, [], _∷_, _++_, append-nil, append-assoc}
-use lib.ListN.{length, length-append}
+use lib.ListN.{length, length-append, take, getD}
+use lib.Seq.{length-take-le, take-length, take-take, take-at, getD-take, getD-at}
 use borrow.Author.Tests.{lt-ltb, le-ltb}
 use Rattle.csv.specs.Grammar.{text-2D-7E}
 use Rattle.csv.specs.Laws.Classes.{text-class}
@@ -40,11 +41,11 @@ within-same (suc b) (suc c) n l m = go (le-or-lt 10 n) (λ (k : 10 ≤ n). withi
     go (inr k) r = within-one (suc b) n k ∙ sym (within-one (suc c) n k)
 
 -- so of `decimal`
-decimal-one : (n : ℕ) → n < 10 → decimal n ≡ (digitZero + n) ∷ []
+pub decimal-one : (n : ℕ) → n < 10 → decimal n ≡ (digitZero + n) ∷ []
 unfolding decimal
 decimal-one n l = within-one n n l
 
-decimal-more : (n : ℕ) → 10 ≤ n → decimal n ≡ decimal (n / 10) ++ (digitZero + n % 10) ∷ []
+pub decimal-more : (n : ℕ) → 10 ≤ n → decimal n ≡ decimal (n / 10) ++ (digitZero + n % 10) ∷ []
 unfolding decimal
 decimal-more n l =
     within-same n (suc n) n (omega arith) (omega arith) ∙ within-more n n l
@@ -155,3 +156,47 @@ decimal-length = by-digits (λ n ds. (k : ℕ) → n < 10 ^ k → 1 ≤ k → le
     longer n ds l h (suc zero) m s = absurd (omega arith)
     longer n ds l h (suc (suc k)) m s =
         omega (arith, length-append ds ((digitZero + n % 10) ∷ []), h (suc k) (omega (arith, pow-suc 10 (suc k))) (omega arith))
+
+-- one digit below 10; from 10 on one more than n / 10 has
+pub decimal-length-one : (n : ℕ) → n < 10 → length (decimal n) ≡ 1
+decimal-length-one n l = ap length (decimal-one n l)
+
+pub decimal-length-more : (n : ℕ) → 10 ≤ n → length (decimal n) ≡ length (decimal (n / 10)) + 1
+decimal-length-more n l = ap length (decimal-more n l) ∙ length-append (decimal (n / 10)) ((digitZero + n % 10) ∷ [])
+
+-- ---- from the last digit to the first
+
+-- m is what is left of n before the digit at k: the first k digits are those of m, or there are none
+abbrev pub LeftBefore : (n k m : ℕ) → Type 0
+LeftBefore n k m = 1 ≤ k → take k (decimal n) ≡ decimal m
+
+pub left-all : (n : ℕ) → LeftBefore n (length (decimal n)) n
+left-all n l = take-length (decimal n)
+
+-- the digit at k is the last of what is left before k + 1, and what is left before it is a tenth of that
+module _ (n k m : ℕ) (inside : k < length (decimal n)) (left : LeftBefore n (k + 1) m) where
+  first : take (k + 1) (decimal n) ≡ decimal m
+  first = left (omega arith)
+
+  size : length (decimal m) ≡ k + 1
+  size = ap length (sym first) ∙ length-take-le (k + 1) (decimal n) (omega arith)
+
+  same-digit : getD (decimal n) k 0 ≡ getD (decimal m) k 0
+  same-digit = sym (getD-take (k + 1) (decimal n) k 0 (omega arith)) ∙ ap (λ (ds : List ℕ). getD ds k 0) first
+
+  same-front : take k (decimal n) ≡ take k (decimal m)
+  same-front = sym (take-take k (k + 1) (decimal n) (omega arith)) ∙ ap (take k) first
+
+  parts : (10 ≤ m) ⊎ (m < 10) → (getD (decimal m) k 0 ≡ digitZero + m % 10) × (1 ≤ k → take k (decimal m) ≡ decimal (m / 10))
+  parts (inl l) =
+      let front : length (decimal (m / 10)) ≡ k = omega (arith, decimal-length-more m l, size) in
+      rw (decimal-more m l) (getD-at (decimal (m / 10)) (digitZero + m % 10) [] 0 k front, λ p. take-at (decimal (m / 10)) _ k front)
+  parts (inr l) =
+      let none : k ≡ 0 = omega (arith, decimal-length-one m l, size) in
+      rw (decimal-one m l) (rw none (ap (_+_ digitZero) (omega arith)), λ p. absurd (omega arith))
+
+  pub last-digit : getD (decimal n) k 0 ≡ digitZero + m % 10
+  last-digit = same-digit ∙ parts (le-or-lt 10 m) .0
+
+  pub left-next : LeftBefore n k (m / 10)
+  left-next p = same-front ∙ parts (le-or-lt 10 m) .1 p

@@ -1,0 +1,36 @@
+// Numbers in a print.
+ghost use mathlib.Core.Path.{_≡_};
+ghost use mathlib.Core.List.{_++_};
+ghost use Prim.Native.Nat.{ℕ, _+_, _≤_};
+ghost use lib.ListN.{length, take, drop};
+ghost use Rattle.planfile.specs.Numerals.{decimal};
+
+// How many digits a number has.
+pub(crate) fn length_of(n: u64) -> usize
+    ensures { λ r. ⌜ r ≡ length (decimal n) ⌝ }
+{
+    let mut left = n;
+    let mut digits: usize = 1;
+    while 10 <= left {
+        left = left / 10;
+        digits += 1;
+    }
+    digits
+}
+
+// Writes a number's digits at a place, and answers the place behind them.
+pub(crate) fn write(n: u64, out: &mut [u8], at: usize) -> usize
+    requires { ⌜ at + length (decimal n) ≤ length (now out) ⌝ }
+    ensures next { λ r. ⌜ r ≡ at + length (decimal n) ⌝ }
+    ensures output { λ r. ⌜ now (out .exit) ≡ take at (now (out .entry)) ++ (decimal n ++ drop (at + length (decimal n)) (now (out .entry))) ⌝ }
+{
+    let digits = length_of(n);
+    let mut left = n;
+    let mut k = digits;
+    while 0 < k {
+        k -= 1;
+        out[at + k] = (0x30 + left % 10) as u8;
+        left = left / 10;
+    }
+    at + digits
+}
