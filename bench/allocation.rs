@@ -16,11 +16,11 @@ struct Plan { name: &'static str, minutes: u64, allowance: u64, watts: Vec<u64>,
 #[derive(PartialEq, Debug, Clone)]
 struct Answer { word: u64, minutes: u64, tries: u64, table: Vec<u64> }
 
-fn proved(p: &Plan) -> Answer {
+fn proved(mode: u64, p: &Plan) -> Answer {
     let mut table = vec![7u64; p.watts.len() * p.energies.len()];
     let mut spare = vec![8u64; p.watts.len()];
     let r = unsafe {
-        fothwen_allocate(0, p.minutes, p.allowance, p.watts.as_ptr(), p.watts.len(), p.fuels.as_ptr(), p.fuels.len(),
+        fothwen_allocate(mode, p.minutes, p.allowance, p.watts.as_ptr(), p.watts.len(), p.fuels.as_ptr(), p.fuels.len(),
             p.energies.as_ptr(), p.energies.len(), p.limits.as_ptr(), p.limits.len(),
             table.as_mut_ptr(), table.len(), spare.as_mut_ptr(), spare.len())
     };
@@ -162,12 +162,32 @@ fn nanoseconds(run: impl Fn() -> Answer) -> (f64, Answer) {
     (best / answer.tries.max(1) as f64, answer)
 }
 
+// The deepest found search: 63 deliveries laid, 11 engines cut for the last one, and its rest laid.
+fn deepest() -> Plan {
+    let capacities = (0..12).map(|i| if i == 0 { 163 } else { 100 }).collect();
+    plan("deepest", capacities, (0..64).map(|p| if p < 63 { (1, 1) } else { (1200, 12) }).collect())
+}
+
+// Runs the deepest search on a stack of so many KiB, in both modes; a stack too small ends the process.
+fn on_stack(kib: usize) {
+    let run = || {
+        let p = deepest();
+        let fixed = proved(0, &p);
+        assert_eq!((fixed.word, fixed.tries), (0, 75));
+        assert_eq!(proved(1, &p), fixed);
+    };
+    std::thread::Builder::new().stack_size(kib * 1024).spawn(run).unwrap().join().unwrap();
+}
+
 fn main() {
+    if let Some(kib) = std::env::args().nth(1) {
+        return on_stack(kib.parse().unwrap());
+    }
     let mut product = 1.0;
     let mut count = 0;
     println!("{:28} {:>9} {:>8} {:>8} {:>6}", "plan", "tries", "proved", "plain", "ratio");
     for p in plans() {
-        let (ours, a) = nanoseconds(|| proved(&p));
+        let (ours, a) = nanoseconds(|| proved(0, &p));
         let (theirs, b) = nanoseconds(|| plain::allocate(&p));
         assert_eq!(a, b, "{}", p.name);
         println!("{:28} {:>9} {:>8.1} {:>8.1} {:>6.2}", p.name, a.tries, ours, theirs, ours / theirs);
