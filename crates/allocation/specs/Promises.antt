@@ -20,8 +20,8 @@ use Rattle.planning.specs.Refusals.{faultNumber}
 use Rattle.planning.specs.Search.{at}
 use Rattle.planning.specs.Sum.{sum}
 
--- Demand 1: the call is answered exactly when it is accepted. A refusal has one of document 01's numbers 3, 6, 7, 8 and 9, a place
--- other than 0 for 6 alone, and changes nothing lent.
+-- Demand 1: the call is answered exactly when it is accepted. A refusal has one of document 01's numbers from 3 to 9 (which one, the
+-- clause on the result says), a place other than 0 for 6 alone, and changes nothing lent.
 unfoldable pub AnsweredExactly : Call → Allocation → Type 0
 AnsweredExactly call r = ((a : Answer) × (r ≡ Answered a)) ↔ Accepted call
 
