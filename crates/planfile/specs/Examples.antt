@@ -3,3 +3,4 @@ pub mod Calls
 pub mod Evaluation
 pub mod Printed
 pub mod TurnedDown
+pub mod Written

@@ -6,11 +6,9 @@ pub mod Reading
 pub mod Holding
 pub mod Refusals
 pub mod Decimals
-pub mod Parts
-pub mod Names
-pub mod Words
-pub mod Cuts
 pub mod PieceLines
 pub mod Print
 pub mod PrintLength
 pub mod ReadBack
+pub mod PlanFile
+pub mod Promises

@@ -6,6 +6,7 @@ pub mod FilePlan
 pub mod Holding
 pub mod Laws
 pub mod Numerals
-pub mod Parts
+pub mod PlanLines
 pub mod Print
+pub mod Promises
 pub mod Reading

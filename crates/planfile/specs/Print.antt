@@ -11,7 +11,7 @@ use Rattle.planning.specs.declared.Refusal.{Refusal}
 use Rattle.planning.specs.Modes.{Planned, outcomeOf, triesOf, pieceIn}
 use Rattle.planning.specs.Refusals.{faultNumber}
 use Rattle.planning.specs.Search.{Result, found, none, stopped}
-use Rattle.planfile.specs.FilePlan.{FilePlan, NamedEngine, NamedDelivery}
+use Rattle.planfile.specs.FilePlan.{FilePlan, engineNames, deliveryNames}
 use Rattle.planfile.specs.Numerals.{decimal}
 
 -- a line by the values of its fields
@@ -29,26 +29,28 @@ unfoldable pub pieceLine : (delivery engine : List ℕ) → (piece : ℕ) → Li
 pieceLine delivery engine zero = []
 pieceLine delivery engine (suc n) = (ascii "piece" ∷ delivery ∷ engine ∷ decimal (suc n) ∷ []) ∷ []
 
--- a delivery's lines, in file order of engines; x i is its piece of engine i
-unfoldable pub rowLines : (delivery : List ℕ) → List NamedEngine → (x : ℕ → ℕ) → List Line
+-- the lines of a delivery, by the names, in file order of engines; x i is its piece of engine i
+unfoldable pub rowLines : (delivery : List ℕ) → (engines : List (List ℕ)) → (x : ℕ → ℕ) → List Line
 rowLines delivery [] x = []
-rowLines delivery (e ∷ es) x = pieceLine delivery (e .name) (x 0) ++ rowLines delivery es (λ i. x (suc i))
+rowLines delivery (engine ∷ engines) x = pieceLine delivery engine (x 0) ++ rowLines delivery engines (λ i. x (suc i))
 
 -- "in file order of deliveries, then engines"
-unfoldable pub pieceLines : List NamedDelivery → List NamedEngine → (x : ℕ → ℕ → ℕ) → List Line
-pieceLines [] es x = []
-pieceLines (d ∷ ds) es x = rowLines (d .name) es (λ i. x 0 i) ++ pieceLines ds es (λ p i. x (suc p) i)
+unfoldable pub pieceLines : (deliveries engines : List (List ℕ)) → (x : ℕ → ℕ → ℕ) → List Line
+pieceLines [] engines x = []
+pieceLines (delivery ∷ deliveries) engines x = rowLines delivery engines (λ i. x 0 i) ++ pieceLines deliveries engines (λ p i. x (suc p) i)
 
 -- the lines behind line 1: "Others print one line", which has no pieces
 unfoldable pub linesOf : FilePlan → Result → List Line
-linesOf f (found tries table) = pieceLines (f .deliveries) (f .engines) (λ p i. pieceIn (length (f .engines)) table p i)
+linesOf f (found tries table) = pieceLines (deliveryNames f) (engineNames f) (λ p i. pieceIn (length (f .engines)) table p i)
 linesOf f (none tries) = []
 linesOf f (stopped tries) = []
 
 -- "Line 1: answer, minutes, tries, pieces."
+abbrev pub answerLine : Outcome → (minutes tries pieces : ℕ) → Line
+answerLine outcome minutes tries pieces = wordOf outcome ∷ decimal minutes ∷ decimal tries ∷ decimal pieces ∷ []
+
 unfoldable pub answerLines : (minutes : ℕ) → Result → (pieces : List Line) → List Line
-answerLines minutes result pieces =
-    (wordOf (outcomeOf result) ∷ decimal minutes ∷ decimal (triesOf result) ∷ decimal (length pieces) ∷ []) ∷ pieces
+answerLines minutes result pieces = answerLine (outcomeOf result) minutes (triesOf result) (length pieces) ∷ pieces
 
 -- the print of an answer, "every line CR LF"; "A name is quoted only if it holds a quote or comma."
 unfoldable pub printOf : FilePlan → Planned → List ℕ

@@ -1,9 +1,4 @@
-// The plan file: numbers, names and fields of a file, and the types that the call with a file speaks of.
-mod decimal;
-mod entry;
-mod names;
-mod numeral;
-
+// The plan file: the types that the call with a file speaks of. Their meaning is given in specs/; there are no functions here.
 use planning::Answer;
 use planning::Refusal;
 

@@ -18,7 +18,8 @@ lent : (file : List ℕ) → (table spare output : ℕ) → FileCall
 lent file table spare output =
     record { file = file; table = replicate table 7; spare = replicate spare 8; output = replicate output 9 }
 
-printedInput : List ℕ
+-- the input of document 01's "The planner's print"
+unfoldable pub printedInput : List ℕ
 printedInput =
     ascii
     "plan,fixed,60,100\r\nengine,E1,3000,1000000000\r\nengine,E2,5000,1000000000\r\ndelivery,D1,5000,2\r\ndelivery,D2,3000,2\r\n"

@@ -29,6 +29,11 @@ all-append P (x ∷ xs) ys =
       λ both. (both .0 .0, others .1 (both .0 .1, both .1)),
     )
 
+-- .. and one that follows from another for each member
+pub all-each : {A : Type 0} {P Q : A → Type 0} → ((x : A) → P x → Q x) → (xs : List A) → All P xs → All Q xs
+all-each follows [] all = tt
+all-each follows (x ∷ xs) all = (follows x (all .0), all-each follows xs (all .1))
+
 map-append : {A B : Type 0} (h : A → B) (xs ys : List A) → map h (xs ++ ys) ≡ map h xs ++ map h ys
 map-append h [] ys = refl
 map-append h (x ∷ xs) ys = ap (λ (l : List _). h x ∷ l) (map-append h xs ys)

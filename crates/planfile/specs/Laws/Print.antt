@@ -44,19 +44,19 @@ byte-allowed b w = go (le-or-lt b 0x21) (le-or-lt b 0x22) (le-or-lt b 0x2B) (le-
     go (inr k) (inr j) (inr i) (inr l) = rw (text-class (text-2D-7E {b = b} l (w .most)))
 
 -- so a sound name can be written
-bytes-writable : (name : List ℕ) → All (Within leastNameByte mostNameByte) name → writable name ≡ true
+pub bytes-writable : (name : List ℕ) → All (Within leastNameByte mostNameByte) name → writable name ≡ true
 unfolding writable
 bytes-writable [] w = refl
 bytes-writable (b ∷ bs) w = and-eq-true-iff (isAllowed (classOf b)) (writable bs) .1 (byte-allowed b (w .0), bytes-writable bs (w .1))
 
 -- a line of four fields can be written where each of them can
-four-writable : (a b c d : List ℕ) → writable a ≡ true → writable b ≡ true → writable c ≡ true → writable d ≡ true
+pub four-writable : (a b c d : List ℕ) → writable a ≡ true → writable b ≡ true → writable c ≡ true → writable d ≡ true
     → writableRecord (a ∷ b ∷ c ∷ d ∷ []) ≡ true
 unfolding writableRecord
 four-writable a b c d p q r s = simp (p, q, r, s)
 
--- a print can be written where each of its lines can
-file-writable : (line : Line) (lines : List Line) → writableRecord line ≡ true → All (λ l. writableRecord l ≡ true) lines
+-- a file can be written where each of its lines can
+pub file-writable : (line : Line) (lines : List Line) → writableRecord line ≡ true → All (λ l. writableRecord l ≡ true) lines
     → writableFile (line ∷ lines) ≡ true
 unfolding writableFile
 file-writable line [] w ws = w
@@ -81,7 +81,7 @@ lines-writable : (f : FilePlan) → All SoundName (engineNames f) → All SoundN
     → All (λ line. writableRecord line ≡ true) (linesOf f r)
 unfolding linesOf
 lines-writable f engines deliveries (found tries table) =
-    lines-good SoundName (λ n. Unit {0}) (λ line. writableRecord line ≡ true) piece-writable (f .deliveries) (f .engines) deliveries engines
+    lines-good SoundName (λ n. Unit {0}) (λ line. writableRecord line ≡ true) piece-writable (deliveryNames f) (engineNames f) deliveries engines
     (λ p i. pieceIn (length (f .engines)) table p i) (λ p i k l. tt)
 lines-writable f engines deliveries (none tries) = tt
 lines-writable f engines deliveries (stopped tries) = tt

@@ -28,7 +28,7 @@ use Rattle.planfile.specs.FilePlan.{FilePlan, unnamed, engineNames, deli
 use Rattle.planfile.specs.Holding.{SoundName}
 use Rattle.planfile.specs.Laws.Decimals.{decimal-plain, decimal-length}
 use Rattle.planfile.specs.Laws.Holding.{engine-count, delivery-count}
-use Rattle.planfile.specs.Laws.PieceLines.{lineOf, lines-good, found-lines}
+use Rattle.planfile.specs.Laws.PieceLines.{lineOf, engines-named, deliveries-named, lines-good, found-lines}
 use Rattle.planfile.specs.Numerals.{decimal}
 use Rattle.planfile.specs.Print.{Line, wordOf, linesOf, answerLines, printOf}
 
@@ -45,7 +45,7 @@ quotes-inside (b ∷ bs) = go (eqb b quote) (quotes-inside bs)
     go false h = omega arith
 
 -- a name of 16 bytes may need 34
-name-length : (name : List ℕ) → SoundName name → length (written name) ≤ 34
+pub name-length : (name : List ℕ) → SoundName name → length (written name) ≤ 34
 name-length name s = rw (length-written name) (go (needsQuotes name))
   where
     go : (t : Bool) → cond t (length name + quoteCount name + 2) (length name) ≤ 34
@@ -53,11 +53,11 @@ name-length name s = rw (length-written name) (go (needsQuotes name))
     go false = omega (arith, s .size)
 
 -- a number needs no quotes
-number-length : (n k : ℕ) → n < 10 ^ k → 1 ≤ k → length (written (decimal n)) ≤ k
+pub number-length : (n k : ℕ) → n < 10 ^ k → 1 ≤ k → length (written (decimal n)) ≤ k
 number-length n k l s = rw (length-written (decimal n), decimal-plain n) (decimal-length n k l s)
 
 -- four fields, three commas, CR and LF
-line-length : (a b c d : List ℕ)
+pub line-length : (a b c d : List ℕ)
     → length (writtenLine (a ∷ b ∷ c ∷ d ∷ [])) ≡ length (written a) + length (written b) + length (written c) + length (written d) + 5
 unfolding writtenLine
 line-length a b c d = simp length-append (omega arith)
@@ -79,7 +79,7 @@ piece-length delivery engine n d e l =
     word = unfold written ascii in refl
 
 -- lines of at most 88 bytes
-lines-length : (lines : List Line) → All (λ line. length (writtenLine line) ≤ 88) lines → length (writtenFile lines) ≤ 88 * length lines
+pub lines-length : (lines : List Line) → All (λ line. length (writtenLine line) ≤ 88) lines → length (writtenFile lines) ≤ 88 * length lines
 unfolding writtenFile
 lines-length [] h = omega arith
 lines-length (line ∷ lines) h = omega (arith, length-append (writtenLine line) (writtenFile lines), h .0, lines-length lines (h .1))
@@ -131,12 +131,15 @@ piece-most plan ranges {tries} {table} e p i k l =
 
 -- the lines of the pieces that a plan in range is answered
 module _ (f : FilePlan) (ranges : InRange (unnamed f)) {tries : ℕ} {table : List ℕ} (finds : planned (unnamed f) .result ≡ found tries table) where
+  -- a cell for every delivery and engine
+  pub found-cells : length table ≡ length (f .deliveries) * length (f .engines)
+  found-cells =
+      rw (delivery-count f, engine-count f)
+      at (plan-length (unnamed f) (planned (unnamed f) .minutes) (ranges .deliveries) (sym (planned-searched (unnamed f) .result) ∙ finds))
+
   -- a line for every piece above 0
   pub found-count : length (linesOf f (found tries table)) ≡ positives (length table) (at table)
-  found-count = found-lines f tries table (rw (delivery-count f, engine-count f) at cells)
-    where
-      cells : length table ≡ length (unnamed f .deliveries) * length (unnamed f .engines)
-      cells = plan-length (unnamed f) (planned (unnamed f) .minutes) (ranges .deliveries) (sym (planned-searched (unnamed f) .result) ∙ finds)
+  found-count = found-lines f tries table found-cells
 
   -- at most 76 of them
   pub found-few : length (linesOf f (found tries table)) ≤ 76
@@ -148,10 +151,10 @@ module _ (f : FilePlan) (ranges : InRange (unnamed f)) {tries : ℕ} {table : Li
       → All (λ line. length (writtenLine line) ≤ 88) (linesOf f (found tries table))
   unfolding linesOf
   found-short engines deliveries =
-      lines-good SoundName (λ n. n ≤ mostEnergy) (λ line. length (writtenLine line) ≤ 88) piece-length (f .deliveries) (f .engines) deliveries engines
+      lines-good SoundName (λ n. n ≤ mostEnergy) (λ line. length (writtenLine line) ≤ 88) piece-length (deliveryNames f) (engineNames f) deliveries engines
       (λ p i. pieceIn (length (f .engines)) table p i)
       (λ p i k l. rw (engine-count f)
-      at (piece-most (unnamed f) ranges finds p i (omega (arith, delivery-count f)) (omega (arith, engine-count f))))
+      at (piece-most (unnamed f) ranges finds p i (omega (arith, delivery-count f, deliveries-named f)) (omega (arith, engine-count f, engines-named f))))
 
 -- 27 bytes for line 1 of found and 88 for each of 76 pieces; none and stopped have line 1 alone
 pub print-length : (f : FilePlan) → All SoundName (engineNames f) → All SoundName (deliveryNames f) → InRange (unnamed f) → length (printed f) ≤ 6715

@@ -7,7 +7,7 @@ use Prim.Native.Nat.{ℕ, zero, suc, _+_, _-_, _*_, _<_}
 use native.Mathlib.Nat.{zero-add}
 use native.Mathlib.Omega.{arith}
 use mathlib.Core.List.{List, [], _∷_, _++_, nil≢cons, cons-eq-cons, List·Memᴰ, List·Memᴰ·head, List·Memᴰ·tail, List·Memᴰ·not-nil, List·Memᴰ·cases-cons, List·Memᴰ·append-cases, List·Memᴰ·eq-of-singleton}
-use lib.ListN.{length, getD, length-map, List·getD-append}
+use lib.ListN.{length, getD, List·getD-append}
 use lib.Seq.{getD-append-add}
 use Rattle.csv.specs.Grammar.{File}
 use Rattle.csv.specs.Laws.Files.{file-unique}
@@ -17,11 +17,11 @@ use Rattle.planning.specs.Modes.{Planned, outcomeOf, triesOf, pieceIn}
 use Rattle.planning.specs.Plan.{All}
 use Rattle.planning.specs.Search.{found, at, cell}
 use Rattle.planning.specs.Sum.{sum, sgn, positives}
-use Rattle.planfile.specs.FilePlan.{FilePlan, NamedEngine, NamedDelivery, engineNames, deliveryNames}
+use Rattle.planfile.specs.FilePlan.{FilePlan, engineNames, deliveryNames}
 use Rattle.planfile.specs.Holding.{Unlike, Holds}
 use Rattle.planfile.specs.Laws.Decimals.{numeral-iff}
 use Rattle.planfile.specs.Laws.Print.{print-reads}
-use Rattle.planfile.specs.Laws.PieceLines.{lineOf, engineNamesIn, deliveryNamesIn, piece-count, row-count, sum-behind, by-rows}
+use Rattle.planfile.specs.Laws.PieceLines.{lineOf, engines-named, deliveries-named, piece-count, row-count, sum-behind, by-rows}
 use Rattle.planfile.specs.Numerals.{Numeral, decimal}
 use Rattle.planfile.specs.Print.{Line, wordOf, pieceLine, rowLines, pieceLines, linesOf, answerLines, printOf}
 
@@ -50,31 +50,31 @@ piece-first delivery engine zero others k = absurd (omega arith)
 piece-first delivery engine (suc n) others k = refl
 
 -- in its row the line of a piece stands behind one for each earlier piece above 0
-row-place : (delivery : List ℕ) (es : List NamedEngine) (x : ℕ → ℕ) (i : ℕ) → i < length es → 0 < x i
-    → getD (rowLines delivery es x) (positives i x) [] ≡ lineOf delivery (nameAt (engineNamesIn es) i) (decimal (x i))
+row-place : (delivery : List ℕ) (es : List (List ℕ)) (x : ℕ → ℕ) (i : ℕ) → i < length es → 0 < x i
+    → getD (rowLines delivery es x) (positives i x) [] ≡ lineOf delivery (nameAt es i) (decimal (x i))
 unfolding rowLines positives sum
 row-place delivery [] x i l k = absurd (omega arith)
-row-place delivery (e ∷ es) x zero l k = piece-first delivery (e .name) (x 0) (rowLines delivery es (λ i. x (suc i))) k
+row-place delivery (e ∷ es) x zero l k = piece-first delivery e (x 0) (rowLines delivery es (λ i. x (suc i))) k
 row-place delivery (e ∷ es) x (suc i) l k =
-    behind (pieceLine delivery (e .name) (x 0)) (rowLines delivery es (λ i. x (suc i))) (positives i (λ i. x (suc i))) _
-    (omega (arith, positives-front i x, piece-count delivery (e .name) (x 0)))
+    behind (pieceLine delivery e (x 0)) (rowLines delivery es (λ i. x (suc i))) (positives i (λ i. x (suc i))) _
+    (omega (arith, positives-front i x, piece-count delivery e (x 0)))
     ∙ row-place delivery es (λ i. x (suc i)) i (omega arith) k
 
 -- among all lines it stands behind those of the earlier rows too
-lines-place : (ds : List NamedDelivery) (es : List NamedEngine) (x : ℕ → ℕ → ℕ) (p i : ℕ) → p < length ds → i < length es → 0 < x p i
+lines-place : (ds es : List (List ℕ)) (x : ℕ → ℕ → ℕ) (p i : ℕ) → p < length ds → i < length es → 0 < x p i
     → getD (pieceLines ds es x) (sum p (λ q. positives (length es) (x q)) + positives i (x p)) []
-    ≡ lineOf (nameAt (deliveryNamesIn ds) p) (nameAt (engineNamesIn es) i) (decimal (x p i))
+    ≡ lineOf (nameAt ds p) (nameAt es i) (decimal (x p i))
 unfolding pieceLines sum
 lines-place [] es x p i l m k = absurd (omega arith)
 lines-place (d ∷ ds) es x zero i l m k =
     ap (λ n. getD (pieceLines (d ∷ ds) es x) n []) (zero-add (positives i (x 0)))
-    ∙ List·getD-append (rowLines (d .name) es (λ i. x 0 i)) (pieceLines ds es (λ p i. x (suc p) i)) [] (positives i (x 0))
-    (omega (arith, row-count (d .name) es (λ i. x 0 i), positives-before (length es) i (x 0) m k))
-    ∙ row-place (d .name) es (λ i. x 0 i) i m k
+    ∙ List·getD-append (rowLines d es (λ i. x 0 i)) (pieceLines ds es (λ p i. x (suc p) i)) [] (positives i (x 0))
+    (omega (arith, row-count d es (λ i. x 0 i), positives-before (length es) i (x 0) m k))
+    ∙ row-place d es (λ i. x 0 i) i m k
 lines-place (d ∷ ds) es x (suc p) i l m k =
-    behind (rowLines (d .name) es (λ i. x 0 i)) (pieceLines ds es (λ p i. x (suc p) i))
+    behind (rowLines d es (λ i. x 0 i)) (pieceLines ds es (λ p i. x (suc p) i))
     (sum p (λ q. positives (length es) (x (suc q))) + positives i (x (suc p))) _
-    (omega (arith, row-count (d .name) es (λ i. x 0 i), sum-front p (λ q. positives (length es) (x q))))
+    (omega (arith, row-count d es (λ i. x 0 i), sum-front p (λ q. positives (length es) (x q))))
     ∙ lines-place ds es (λ p i. x (suc p) i) p i (omega arith) m k
 
 -- behind line 1 the line of a piece above 0 has before it a line for each piece above 0 in an earlier cell of the table
@@ -85,20 +85,21 @@ pub found-place : (f : FilePlan) (tries : ℕ) (table : List ℕ) (p i : ℕ) �
 unfolding linesOf
 found-place f tries table p i l m k =
     ap (λ n. getD (linesOf f (found tries table)) n []) (sym earlier)
-    ∙ lines-place (f .deliveries) (f .engines) (λ p i. pieceIn (length (f .engines)) table p i) p i l m k
+    ∙ lines-place (deliveryNames f) (engineNames f) (λ p i. pieceIn engines table p i) p i (rw (deliveries-named f) l) (rw (engines-named f) m) k
   where
     engines : ℕ
     engines = length (f .engines)
 
-    earlier : sum p (λ q. positives engines (pieceIn engines table q)) + positives i (pieceIn engines table p) ≡ positives (cell engines p i) (at table)
+    earlier : sum p (λ q. positives (length (engineNames f)) (pieceIn engines table q)) + positives i (pieceIn engines table p)
+        ≡ positives (cell engines p i) (at table)
     earlier =
         unfold positives pieceIn cell in
-        omega (arith, by-rows p engines table, sum-behind (p * engines) i (λ j. sgn (at table j)))
+        rw (engines-named f) (omega (arith, by-rows p engines table, sum-behind (p * engines) i (λ j. sgn (at table j))))
 
 -- ---- by names
 
 -- what is true of all members is true at every place
-all-at : {A : Type 0} (P : A → Type 0) (xs : List A) (other : A) (i : ℕ) → All P xs → i < length xs → P (getD xs i other)
+pub all-at : {A : Type 0} (P : A → Type 0) (xs : List A) (other : A) (i : ℕ) → All P xs → i < length xs → P (getD xs i other)
 all-at P [] other i h l = absurd (omega arith)
 all-at P (x ∷ xs) other zero h l = h .0
 all-at P (x ∷ xs) other (suc i) h l = all-at P xs other i (h .1) (omega arith)
@@ -119,36 +120,36 @@ record Drawn (line : Line) (delivery : List ℕ) (engines : List (List ℕ)) (x 
   same : line ≡ lineOf delivery (nameAt engines engine) (decimal (x engine))
 
 -- a row has no other lines ..
-row-drawn : {line : Line} (delivery : List ℕ) (es : List NamedEngine) (x : ℕ → ℕ) → List·Memᴰ line (rowLines delivery es x)
-    → Drawn line delivery (engineNamesIn es) x
+row-drawn : {line : Line} (delivery : List ℕ) (es : List (List ℕ)) (x : ℕ → ℕ) → List·Memᴰ line (rowLines delivery es x)
+    → Drawn line delivery es x
 unfolding rowLines
 row-drawn delivery [] x h = absurd (List·Memᴰ·not-nil h)
-row-drawn {line} delivery (e ∷ es) x h = go (List·Memᴰ·append-cases (pieceLine delivery (e .name) (x 0)) h) (row-drawn delivery es (λ i. x (suc i)))
+row-drawn {line} delivery (e ∷ es) x h = go (List·Memᴰ·append-cases (pieceLine delivery e (x 0)) h) (row-drawn delivery es (λ i. x (suc i)))
   where
-    piece : (n : ℕ) → x 0 ≡ n → List·Memᴰ line (pieceLine delivery (e .name) n) → Drawn line delivery (engineNamesIn (e ∷ es)) x
+    piece : (n : ℕ) → x 0 ≡ n → List·Memᴰ line (pieceLine delivery e n) → Drawn line delivery (e ∷ es) x
     piece zero z m = unfold pieceLine in absurd (List·Memᴰ·not-nil m)
     piece (suc n) z m = unfold pieceLine in
         record { engine = 0; inside = omega arith; above = omega arith; same = rw z (List·Memᴰ·eq-of-singleton m) }
 
-    go : List·Memᴰ line (pieceLine delivery (e .name) (x 0)) ⊎ List·Memᴰ line (rowLines delivery es (λ i. x (suc i)))
-        → (List·Memᴰ line (rowLines delivery es (λ i. x (suc i))) → Drawn line delivery (engineNamesIn es) (λ i. x (suc i)))
-        → Drawn line delivery (engineNamesIn (e ∷ es)) x
+    go : List·Memᴰ line (pieceLine delivery e (x 0)) ⊎ List·Memᴰ line (rowLines delivery es (λ i. x (suc i)))
+        → (List·Memᴰ line (rowLines delivery es (λ i. x (suc i))) → Drawn line delivery es (λ i. x (suc i)))
+        → Drawn line delivery (e ∷ es) x
     go (inl m) r = piece (x 0) refl m
     go (inr m) r = let d = r m in record { engine = suc (d .engine); inside = omega (arith, d .inside); above = d .above; same = d .same }
 
 -- .. and all rows together have none
-lines-drawn : {line : Line} (ds : List NamedDelivery) (es : List NamedEngine) (x : ℕ → ℕ → ℕ) → List·Memᴰ line (pieceLines ds es x)
-    → (p : ℕ) × (p < length (deliveryNamesIn ds)) × Drawn line (nameAt (deliveryNamesIn ds) p) (engineNamesIn es) (x p)
+lines-drawn : {line : Line} (ds es : List (List ℕ)) (x : ℕ → ℕ → ℕ) → List·Memᴰ line (pieceLines ds es x)
+    → (p : ℕ) × (p < length ds) × Drawn line (nameAt ds p) es (x p)
 unfolding pieceLines
 lines-drawn [] es x h = absurd (List·Memᴰ·not-nil h)
-lines-drawn {line} (d ∷ ds) es x h = go (List·Memᴰ·append-cases (rowLines (d .name) es (λ i. x 0 i)) h) (lines-drawn ds es (λ p i. x (suc p) i))
+lines-drawn {line} (d ∷ ds) es x h = go (List·Memᴰ·append-cases (rowLines d es (λ i. x 0 i)) h) (lines-drawn ds es (λ p i. x (suc p) i))
   where
-    Somewhere : List NamedDelivery → (ℕ → ℕ → ℕ) → Type 0
-    Somewhere ds x = (p : ℕ) × (p < length (deliveryNamesIn ds)) × Drawn line (nameAt (deliveryNamesIn ds) p) (engineNamesIn es) (x p)
+    Somewhere : List (List ℕ) → (ℕ → ℕ → ℕ) → Type 0
+    Somewhere ds x = (p : ℕ) × (p < length ds) × Drawn line (nameAt ds p) es (x p)
 
-    go : List·Memᴰ line (rowLines (d .name) es (λ i. x 0 i)) ⊎ List·Memᴰ line (pieceLines ds es (λ p i. x (suc p) i))
+    go : List·Memᴰ line (rowLines d es (λ i. x 0 i)) ⊎ List·Memᴰ line (pieceLines ds es (λ p i. x (suc p) i))
         → (List·Memᴰ line (pieceLines ds es (λ p i. x (suc p) i)) → Somewhere ds (λ p i. x (suc p) i)) → Somewhere (d ∷ ds) x
-    go (inl m) r = (0, omega arith, row-drawn (d .name) es (λ i. x 0 i) m)
+    go (inl m) r = (0, omega arith, row-drawn d es (λ i. x 0 i) m)
     go (inr m) r = let (p, l, drawn) = r m in (suc p, omega (arith, l), drawn)
 
 -- what stands at a place of a list stands in it
@@ -158,22 +159,21 @@ stands-at (line ∷ lines) zero e = List·Memᴰ·head (sym e)
 stands-at (line ∷ lines) (suc n) e = List·Memᴰ·tail (stands-at lines n e)
 
 -- a line with two names stands among those of the pieces where their piece is above 0 and the line has its number
-lines-iff : (ds : List NamedDelivery) (es : List NamedEngine) (x : ℕ → ℕ → ℕ) → Unlike (deliveryNamesIn ds) → Unlike (engineNamesIn es)
+lines-iff : (ds es : List (List ℕ)) (x : ℕ → ℕ → ℕ) → Unlike ds → Unlike es
     → (p i : ℕ) → p < length ds → i < length es → (text : List ℕ)
-    → List·Memᴰ (lineOf (nameAt (deliveryNamesIn ds) p) (nameAt (engineNamesIn es) i) text) (pieceLines ds es x) ↔ ((0 < x p i) × Numeral text (x p i))
+    → List·Memᴰ (lineOf (nameAt ds p) (nameAt es i) text) (pieceLines ds es x) ↔ ((0 < x p i) × Numeral text (x p i))
 lines-iff ds es x u v p i l m text = (
   λ h. only (lines-drawn ds es x h),
   λ h. rw (numeral-iff text (x p i) .0 (h .1)) (stands-at _ _ (lines-place ds es x p i l m (h .0))),
 )
   where
-    only : ((q : ℕ) × (q < length (deliveryNamesIn ds))
-        × Drawn (lineOf (nameAt (deliveryNamesIn ds) p) (nameAt (engineNamesIn es) i) text) (nameAt (deliveryNamesIn ds) q) (engineNamesIn es) (x q))
+    only : ((q : ℕ) × (q < length ds)
+        × Drawn (lineOf (nameAt ds p) (nameAt es i) text) (nameAt ds q) es (x q))
         → (0 < x p i) × Numeral text (x p i)
     only (q, k, drawn) =
         let (word, (delivery, (engine, (number, end)))) = simp cons-eq-cons at (drawn .same) in
-        let row : p ≡ q = one-place (deliveryNamesIn ds) u p q (omega (arith, length-map ds (λ (d : NamedDelivery). d .name))) k delivery in
-        let column : i ≡ drawn .engine =
-        one-place (engineNamesIn es) v i (drawn .engine) (omega (arith, length-map es (λ (e : NamedEngine). e .name))) (drawn .inside) engine in
+        let row : p ≡ q = one-place ds u p q l k delivery in
+        let column : i ≡ drawn .engine = one-place es v i (drawn .engine) m (drawn .inside) engine in
         subst₂ (λ q j. (0 < x q j) × Numeral text (x q j)) (sym row) (sym column) (drawn .above, numeral-iff text _ .1 number)
 
 -- line 1 is none of them
@@ -197,4 +197,5 @@ unfolding linesOf
 found-read-back {f = f} h a {tries = tries} {table = table} finds file p i l m text =
     rw (file-unique file (print-reads f (h .enginesNamed) (h .deliveriesNamed) a), finds)
     (Iff·trans (behind-first (a .minutes) tries table _ _ text (linesOf f (found tries table)))
-    (lines-iff (f .deliveries) (f .engines) (λ p i. pieceIn (length (f .engines)) table p i) (h .deliveriesUnlike) (h .enginesUnlike) p i l m text))
+    (lines-iff (deliveryNames f) (engineNames f) (λ p i. pieceIn (length (f .engines)) table p i) (h .deliveriesUnlike) (h .enginesUnlike) p i
+    (rw (deliveries-named f) l) (rw (engines-named f) m) text))

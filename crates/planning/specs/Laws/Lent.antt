@@ -33,7 +33,7 @@ fits-same {engines} {deliveries} {x = x} {y = y} same f =
     }
 
 -- a table at the front of a lent list has its pieces there
-front-piece : (engines deliveries : ℕ) (table lent : List ℕ) → length table ≡ deliveries * engines
+pub front-piece : (engines deliveries : ℕ) (table lent : List ℕ) → length table ≡ deliveries * engines
     → (p i : ℕ) → p < deliveries → i < engines → pieceIn engines (overFront table lent) p i ≡ pieceIn engines table p i
 unfolding pieceIn overFront
 front-piece engines deliveries table lent e p i l k =

@@ -1,0 +1,75 @@
+-- What the functions on the records of a file return, in terms of the reading.
+-- Assumes nothing.
+use mathlib.Core.Path.{_≡_}
+use mathlib.Core.List.{List}
+use Prim.Native.Nat.{ℕ, _+_}
+use lib.Dec.{leb}
+use lib.ListN.{length}
+use Rattle.planning.specs.declared.Fault.the-variants.{NoEngine}
+use Rattle.planning.specs.declared.Mode.{Mode}
+use Rattle.planning.specs.Bounds.{mostEngines, mostDeliveries}
+use Rattle.planfile.specs.FilePlan.{FilePlan}
+use Rattle.planfile.specs.Laws.Records.{engineOf, deliveryOf}
+use Rattle.planfile.specs.Reading.{Read, refused, accepted, _>>=_, fault, require, fieldsOf, readRecord}
+use Rattle.filecall.specs.declared.reading.Added.{Added}
+use Rattle.filecall.specs.declared.reading.Added.the-variants as added
+use Rattle.filecall.specs.declared.reading.Plan.{Plan}
+use Rattle.filecall.specs.declared.reading.Reading.{Reading}
+use Rattle.filecall.specs.declared.reading.Verdict.the-variants.{Accepted, Refused}
+use Rattle.filecall.specs.Items.{Columns, Holding, itemsIn}
+
+-- the plan of columns
+abbrev pub planIn : Mode → (minutes allowance engines deliveries : ℕ) → (engineColumns deliveryColumns : Columns) → FilePlan
+planIn mode minutes allowance engines deliveries engineColumns deliveryColumns =
+    record {
+      mode = mode;
+      minutes = minutes;
+      allowance = allowance;
+      engines = itemsIn engineOf engines engineColumns;
+      deliveries = itemsIn deliveryOf deliveries deliveryColumns;
+    }
+
+-- a record's text, read behind the plan so far
+unfoldable pub readText : FilePlan → (r : ℕ) → (text : List ℕ) → Read FilePlan
+readText f r text = do
+  x ← fieldsOf r text
+  readRecord f r x
+
+-- a record added an engine or a delivery as the reading has it, or the reading has that fault; e and d are the columns before it
+unfoldable pub AddsRecord : (text : List ℕ) → (engines deliveries : ℕ) → (e d e′ d′ : Columns) → Added → Type 0
+AddsRecord text engines deliveries e d e′ d′ added.Engine =
+    ((mode : Mode) (minutes allowance r : ℕ)
+    → readText (planIn mode minutes allowance engines deliveries e d) r text ≡ accepted (planIn mode minutes allowance (engines + 1) deliveries e′ d′))
+    × Holding (engines + 1) mostEngines e′
+    × Holding deliveries mostDeliveries d′
+AddsRecord text engines deliveries e d e′ d′ added.Delivery =
+    ((mode : Mode) (minutes allowance r : ℕ)
+    → readText (planIn mode minutes allowance engines deliveries e d) r text ≡ accepted (planIn mode minutes allowance engines (deliveries + 1) e′ d′))
+    × Holding engines mostEngines e′
+    × Holding (deliveries + 1) mostDeliveries d′
+AddsRecord text engines deliveries e d e′ d′ (added.Fault what) =
+    (mode : Mode) (minutes allowance r : ℕ) → readText (planIn mode minutes allowance engines deliveries e d) r text ≡ fault what r
+
+-- the plan that a struct has by value
+abbrev pub engineColumns : Plan → Columns
+engineColumns p = record { names = p .«engine_names»; sizes = p .«engine_sizes»; firsts = p .watts; seconds = p .fuels }
+
+abbrev pub deliveryColumns : Plan → Columns
+deliveryColumns p = record { names = p .«delivery_names»; sizes = p .«delivery_sizes»; firsts = p .energies; seconds = p .limits }
+
+pub record IsPlan (f : FilePlan) (p : Plan) : Type 0 where
+  pub plan : f ≡ planIn (p .mode) (p .minutes) (p .allowance) (p .engines) (p .deliveries) (engineColumns p) (deliveryColumns p)
+  pub engines : Holding (p .engines) mostEngines (engineColumns p)
+  pub deliveries : Holding (p .deliveries) mostDeliveries (deliveryColumns p)
+
+-- what a file is read as
+unfoldable pub ReadBy : Read FilePlan → Reading → Type 0
+ReadBy (refused refusal) r = r .verdict ≡ Refused refusal
+ReadBy (accepted f) r = (r .verdict ≡ Accepted) × IsPlan f (r .plan)
+
+-- 8 after the last record
+unfoldable pub withEngine : Read FilePlan → Read FilePlan
+withEngine m = do
+  f ← m
+  _ ← require (leb 1 (length (f .engines))) NoEngine 0
+  accepted f
