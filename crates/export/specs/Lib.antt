@@ -1,2 +1,3 @@
--- The allocation for programs in other languages.
+-- What the exported functions return.
+pub mod Laws
 pub mod Packed

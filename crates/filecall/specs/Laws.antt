@@ -12,4 +12,5 @@ pub mod Pending
 pub mod FileRead
 pub mod HandOver
 pub mod FileCall
+pub mod RefusalPrint
 pub mod Printing

@@ -77,13 +77,14 @@ fn is_name<'a>(names: &'a [u8], sizes: &'a [u8], k: usize, bytes: &'a [u8; 16], 
     if sizes[k] as usize != size {
         return false;
     }
+    // from the back, since names on a site begin alike and end in a number
     let from = 16 * k;
-    let mut i = 0;
-    while i < size {
+    let mut i = size;
+    while 0 < i {
+        i -= 1;
         if names[from + i] != bytes[i] {
             return false;
         }
-        i += 1;
     }
     true
 }

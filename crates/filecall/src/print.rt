@@ -3,6 +3,7 @@ use crate::decimal;
 use csv::Wrote;
 use planning::Answer;
 use planning::Outcome;
+use planning::Refusal;
 ghost use mathlib.Core.Path.{_≡_};
 ghost use mathlib.Core.Bool.{true};
 ghost use mathlib.Core.List.{[], _∷_, _++_};
@@ -12,6 +13,8 @@ ghost use Rattle.csv.specs.Writer.{writable, written, writtenLine};
 ghost use Rattle.planning.specs.Modes.{overFront};
 ghost use Rattle.planning.specs.Search.{at as entryAt};
 ghost use Rattle.planning.specs.Sum.{positives};
+ghost use Rattle.planfile.specs.declared.FileAnswer.the-variants.{Refused};
+ghost use Rattle.planfile.specs.FileCall.{printLengthBy, printOutputBy};
 ghost use Rattle.planfile.specs.Numerals.{decimal as digits};
 ghost use Rattle.filecall.specs.Parts.{nameList};
 ghost use Rattle.filecall.specs.Printing.{Put, withComma, Names, pieceBytes, rowBytes, tableBytes, printBytes};
@@ -261,4 +264,17 @@ pub(crate) fn write<'a>(
         Outcome::None => write_answer(b"none", minutes, tries, 0, out, 0),
         Outcome::Stopped => write_answer(b"stopped", minutes, tries, 0, out, 0),
     }
+}
+
+// The line of a refusal at the front of the output, where it fits; answers its length, or 0.
+pub(crate) fn write_refusal(refusal: Refusal, out: &mut [u8]) -> usize
+    ensures next { λ r. ⌜ r ≡ printLengthBy (Refused refusal) (length (now (out .entry))) ⌝ }
+    ensures output { λ r. ⌜ now (out .exit) ≡ printOutputBy (Refused refusal) (now (out .entry)) ⌝ }
+{
+    let fault = refusal.fault;
+    let place = refusal.place;
+    if out.len() < 14 + decimal::length_of(place) {
+        return 0;
+    }
+    write_answer(b"refused", planning::number_of(fault), place, 0, out, 0)
 }

@@ -2,7 +2,7 @@
 -- output hold afterwards.
 -- Assumes nothing.
 use Prim.Native.Nat.{ℕ}
-use mathlib.Core.Bool.{Bool, true, false, _&&_}
+use mathlib.Core.Bool.{cond}
 use mathlib.Core.List.{List}
 use lib.ListN.{length}
 use lib.Dec.{leb, eqb}
@@ -58,6 +58,22 @@ fileSpare call = onExit (readCall call) (call .spare) (λ f. sparesAfter (unname
 -- "The print stands at the front of the lent output; bytes behind it are kept."
 unfoldable pub fileOutput : FileCall → List ℕ
 fileOutput call = onExit (readCall call) (call .output) (λ f. overFront (printed f) (call .output))
+
+-- "`refused,NUMBER,RECORD,0`": the call with the refusal printed too, where there is space for it. Its print's length, 0 for none ..
+unfoldable pub printLengthBy : FileAnswer → (space : ℕ) → ℕ
+printLengthBy (Printed answer n) space = n
+printLengthBy (Refused refusal) space = cond (leb (length (refusalPrint refusal)) space) (length (refusalPrint refusal)) 0
+
+unfoldable pub printLength : FileCall → ℕ
+printLength call = printLengthBy (answerToFile call) (length (call .output))
+
+-- .. and the output afterwards
+unfoldable pub printOutputBy : FileAnswer → (output : List ℕ) → List ℕ
+printOutputBy (Printed answer n) output = output
+printOutputBy (Refused refusal) output = cond (leb (length (refusalPrint refusal)) (length output)) (overFront (refusalPrint refusal) output) output
+
+unfoldable pub printOutput : FileCall → List ℕ
+printOutput call = printOutputBy (answerToFile call) (fileOutput call)
 
 -- "Program `planner` reads standard input and prints CSV": all that it prints. It has to bring tables of the lengths asked for and
 -- space for every print, so that 9 has no part in it.

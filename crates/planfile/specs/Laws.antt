@@ -12,3 +12,4 @@ pub mod PrintLength
 pub mod ReadBack
 pub mod PlanFile
 pub mod Promises
+pub mod Program

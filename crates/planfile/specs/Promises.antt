@@ -9,6 +9,7 @@ use lib.ListN.{length, take, drop, getD}
 use Rattle.csv.specs.Grammar.{File}
 use Rattle.csv.specs.Records.{records}
 use Rattle.planning.specs.declared.Answer.{Answer}
+use Rattle.planning.specs.declared.Fault.the-variants.{Space}
 use Rattle.planning.specs.declared.Mode.the-variants.{Fixed, Shortest}
 use Rattle.planning.specs.declared.Outcome.the-variants.{Found, None, Stopped}
 use Rattle.planning.specs.declared.Refusal.{Refusal}
@@ -22,13 +23,13 @@ use Rattle.planning.specs.Search.{found, at, cell}
 use Rattle.planning.specs.Sum.{sum, positives}
 use Rattle.planfile.specs.declared.FileAnswer.{FileAnswer}
 use Rattle.planfile.specs.declared.FileAnswer.the-variants.{Printed, Refused}
-use Rattle.planfile.specs.FileCall.{FileCall, printed}
+use Rattle.planfile.specs.FileCall.{FileCall, printed, programPrint}
 use Rattle.planfile.specs.FilePlan.{FilePlan, unnamed, engineNames, deliveryNames}
 use Rattle.planfile.specs.Holding.{Holds}
 use Rattle.planfile.specs.Laws.PieceLines.{lineOf}
 use Rattle.planfile.specs.Laws.ReadBack.{nameAt}
 use Rattle.planfile.specs.Numerals.{Numeral, decimal}
-use Rattle.planfile.specs.Print.{Line, wordOf, linesOf}
+use Rattle.planfile.specs.Print.{Line, wordOf, linesOf, refusalPrint}
 
 -- "a piece table of deliveries × engines (a row for each delivery ..)": how many numbers of the lent table are the plan's
 abbrev pub planCells : FilePlan → ℕ
@@ -153,3 +154,15 @@ ShortestExactly call r =
     (a : Answer) (n : ℕ) (f : FilePlan) → r ≡ Printed a n → Holds (call .file) f → a .outcome ≡ Found
     → (f .mode ≡ Shortest → ShortestTime (unnamed f) (a .minutes))
     × (f .mode ≡ Fixed → a .minutes ≡ f .minutes)
+
+-- ---- The program `planner`
+
+-- What is printed of an input is document 01's print of it, and never a refusal by 9.
+pub record ProgramPrints (input print : List ℕ) : Type 0 where
+  pub whole : print ≡ programPrint input
+  pub neverSpace : (refusal : Refusal) → refusal .fault ≡ Space → print ≡ refusalPrint refusal → ⊥
+
+-- So it is where tables of the lengths asked for are lent and 6,715 bytes of output, which hold every print.
+unfoldable pub PrintsAsProgram : FileCall → (n : ℕ) → (output : List ℕ) → Type 0
+PrintsAsProgram call n output =
+    length (call .table) ≡ mostCells → length (call .spare) ≡ mostEngines → 6715 ≤ length (call .output) → ProgramPrints (call .file) (take n output)

@@ -1,4 +1,6 @@
-// The types that the planner's answers and contracts speak of. Their meaning is given in specs/; there are no functions here.
+// The types that the planner's answers and contracts speak of, and a fault's number. Their meaning is given in specs/.
+ghost use mathlib.Core.Path.{_≡_};
+ghost use Rattle.planning.specs.Refusals.{faultNumber};
 
 // MODE of a plan: search the minutes it gives, or look for the shortest time.
 pub enum Mode {
@@ -20,7 +22,7 @@ pub struct Answer {
     pub tries: u64,
 }
 
-// Why a call is turned down: the rows 1 to 9 of document 01's table, in its order. `faultNumber` in specs/ gives the number.
+// Why a call is turned down: the rows 1 to 9 of document 01's table, in its order.
 pub enum Fault {
     Size,
     Grammar,
@@ -50,4 +52,21 @@ pub enum Lookup {
     Engine(usize),
     Nowhere,
     Refused(Refusal),
+}
+
+// Document 01's number of a fault.
+pub fn number_of(fault: Fault) -> u64
+    ensures { λ r. ⌜ r ≡ faultNumber fault ⌝ }
+{
+    match fault {
+        Fault::Size => 1,
+        Fault::Grammar => 2,
+        Fault::Fields => 3,
+        Fault::Kind => 4,
+        Fault::Name => 5,
+        Fault::Value => 6,
+        Fault::Count => 7,
+        Fault::NoEngine => 8,
+        Fault::Space => 9,
+    }
 }

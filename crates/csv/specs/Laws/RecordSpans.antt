@@ -11,7 +11,7 @@ use lib.Seq.{take-at, drop-at, drop-drop, drop-append-add, take-length}
 use borrow.Author.Tests.{eqb-true}
 use Rattle.csv.specs.declared.RecordSpan.{RecordSpan}
 use Rattle.csv.specs.Bytes.{carriageReturn, lineFeed}
-use Rattle.csv.specs.Records.{outsideAfter, behindEnd, endedOr, firstFrom, firstRecord, further, furtherRecords}
+use Rattle.csv.specs.Records.{outsideAfter, behindEnd, endedOr, firstFrom, firstRecord, further, furtherRecords, records}
 use Rattle.csv.specs.Spans.{spanFrom, recordSpan}
 
 -- what stands behind a record's text: nothing, or a record end and the bytes behind it
@@ -107,3 +107,16 @@ records-from file from n l h = go n (drop from file) refl h
       omega (arith, ap length e, length-drop from file, length-drop (recordSpan file from .next) file, stands .onward l),
       unfold furtherRecords in rw (stands .next, e),
     )
+
+-- ---- how many records there are
+
+further-count : (n : ℕ) (bytes : List ℕ) → length (furtherRecords n bytes) ≤ n
+unfolding furtherRecords
+further-count zero bytes = omega arith
+further-count (suc n) [] = omega arith
+further-count (suc n) (b ∷ rest) = omega (arith, further-count n (further (firstRecord (b ∷ rest))))
+
+-- a file has at most one record more than it has bytes
+pub records-count : (bytes : List ℕ) → length (records bytes) ≤ length bytes + 1
+unfolding records
+records-count bytes = omega (arith, further-count (length bytes) (further (firstRecord bytes)))

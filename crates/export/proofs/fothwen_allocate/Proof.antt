@@ -1,20 +1,11 @@
 -- `export::fothwen_allocate` meets its contract: what `allocate` ensures, with the result in one number.
 -- Assumes nothing.
 use mathlib.Core.Path.{_≡_, sym, ap, _∙_}
-use Prim.Native.Nat.{ℕ, _≤_}
 use borrow.Author.Needs.{needs}
-use native.Mathlib.Omega.{arith}
-use Rattle.planning.specs.declared.Outcome.{Outcome}
-use Rattle.planning.specs.declared.Outcome.the-variants.{Found, None, Stopped}
-use Rattle.export.specs.Packed.{wordOf, packedOf}
+use Rattle.export.specs.Laws.{word-small}
+use Rattle.export.specs.Packed.{packedOf}
 use Rattle.export.proofs.fothwen_allocate.Statement.{statement}
 use Rattle.export.proofs.fothwen_allocate.Tie as tie
-
-word-small : (outcome : Outcome) (word : ℕ) → word ≡ wordOf outcome → word ≤ 3
-unfolding wordOf
-word-small Found word e = omega arith
-word-small None word e = omega arith
-word-small Stopped word e = omega arith
 
 mode-of-requires : tie.Need-mode-of-requires
 mode-of-requires c κs = search needs

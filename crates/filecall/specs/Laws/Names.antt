@@ -20,6 +20,7 @@ use Rattle.planning.specs.Search.{at}
 use Rattle.filecall.specs.declared.names.Name.{Name}
 use Rattle.planfile.specs.Bounds.{mostNameBytes, leastNameByte, mostNameByte}
 use Rattle.filecall.specs.Parts.{NamedBy, tabulated, nameList}
+use Rattle.planfile.specs.Laws.Tests.{same-iff}
 use Rattle.planfile.specs.Reading.{same, nameBytes, soundName, unused}
 use Rattle.filecall.specs.Laws.Parts.{within-below, within-above, within-both}
 
@@ -32,6 +33,14 @@ same-lengths [] [] ne = absurd (ne refl)
 same-lengths [] (b ∷ bs) ne = refl
 same-lengths (a ∷ rest) [] ne = refl
 same-lengths (a ∷ rest) (b ∷ bs) ne = rw (same-lengths rest bs (λ e. ne (ap suc e)), and-false)
+
+-- nor are texts that differ in a byte
+pub same-unlike : (text other : List ℕ) (i : ℕ) → (getD text i 0 ≡ getD other i 0 → ⊥) → same text other ≡ false
+same-unlike text other i ne = go (same text other) refl
+  where
+    go : (t : Bool) → same text other ≡ t → t ≡ false
+    go true e = absurd (ne (ap (λ (l : List ℕ). getD l i 0) (same-iff text other .0 e)))
+    go false e = refl
 
 module _ (text other : List ℕ) (i : ℕ) where
   -- behind their last bytes nothing is left to compare

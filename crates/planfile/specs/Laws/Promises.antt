@@ -59,7 +59,7 @@ accepted-call call {f} e =
     let (g, read, (table, (spare, (output, same)))) = call-iff call f .0 e in
     (record { plan = g; held = accepted-holds (call .file) g read; table = table; spare = spare; output = output }, same)
 
-call-accepted : (call : FileCall) (ok : FileAccepted call) → readCall call ≡ accepted (ok .plan)
+pub call-accepted : (call : FileCall) (ok : FileAccepted call) → readCall call ≡ accepted (ok .plan)
 call-accepted call ok =
     call-iff call (ok .plan) .1
     (ok .plan, holds-accepted (call .file) (ok .plan) (ok .held), (ok .table, (ok .spare, (ok .output, refl))))
@@ -109,7 +109,7 @@ without-record count number listed outside =
     record { listed = listed; counted = λ inside. absurd (outside inside); nowhere = λ n. refl }
 
 -- the number of a file's fault
-file-numbered : (count place : ℕ) (what : Fault) → PlaceOf count what place → (faultNumber what ≤ 8) × Numbered count (faultNumber what) place
+pub file-numbered : (count place : ℕ) (what : Fault) → PlaceOf count what place → (faultNumber what ≤ 8) × Numbered count (faultNumber what) place
 unfolding faultNumber
 file-numbered count place Size p =
     rw p (omega arith, without-record count 1 (record { least = omega arith; most = omega arith }) (λ w. omega (arith, w .least)))
@@ -134,7 +134,7 @@ module _ (new lent : List ℕ) where
   unfolding overFront
   front-at i l = List·getD-append new (drop (length new) lent) 0 i l
 
-  front-taken : {n : ℕ} → length new ≡ n → take n (overFront new lent) ≡ new
+  pub front-taken : {n : ℕ} → length new ≡ n → take n (overFront new lent) ≡ new
   unfolding overFront
   front-taken e = rw (← e) (take-append-seam new (drop (length new) lent))
 

@@ -1,25 +1,29 @@
--- `filecall::names::is_name` meets its contract. The loop's invariant: the answer is that of comparing the bytes left. The measure is what is left of
--- them. Assumes nothing.
-use mathlib.Core.Path.{_≡_, refl, sym, _∙_}
-use mathlib.Core.List.{List}
-use Prim.Native.Nat.{ℕ, _+_, _*_, _-_, _≤_, _<_}
+-- `filecall::names::is_name` meets its contract. The loop's invariant: the names are the same from byte `i` on. The measure is `i`. Assumes nothing.
+use mathlib.Core.Path.{_≡_, refl, sym, ap₂, _∙_}
+use mathlib.Core.List.{List, _∷_}
+use Prim.Native.Nat.{ℕ, suc, _+_, _*_, _-_, _≤_, _<_}
 use native.Mathlib.Omega.{arith}
-use lib.ListN.{length, take, drop, getD, length-drop}
-use lib.Seq.{length-take-le, getD-take, getD-drop}
+use lib.ListN.{length, take, drop, getD, length-drop, drop-of-length-le}
+use lib.Seq.{length-take-le, getD-take, getD-drop, drop-cons}
 use Rattle.planning.specs.Search.{at}
+use Rattle.planfile.specs.Laws.Tests.{same-iff}
 use Rattle.planfile.specs.Reading.{same}
-use Rattle.filecall.specs.Laws.Names.{same-lengths, same-end, same-passed, same-differs}
+use Rattle.filecall.specs.Laws.Names.{same-lengths, same-unlike}
 use Rattle.filecall.proofs.names.is_name.Statement.{statement}
 use Rattle.filecall.proofs.names.is_name.Tie as tie
 
+-- the name, and the one at place k
+abbrev name-of : (bytes : List ℕ) → (size : ℕ) → List ℕ
+name-of bytes size = take size bytes
+
+abbrev other-of : (names sizes : List ℕ) → (k : ℕ) → List ℕ
+other-of names sizes k = take (at sizes k) (drop (16 * k) names)
+
 abbrev Inv-loop : tie.InvT-loop
-Inv-loop names sizes k bytes size from i₀ i =
-    let name = take size bytes in
-    let other = take (at sizes k) (drop (16 * k) names) in
-    (i ≤ size) × (same name other ≡ same (drop i name) (drop i other))
+Inv-loop names sizes k bytes size from i₀ i = (i ≤ size) × (drop i (name-of bytes size) ≡ drop i (other-of names sizes k))
 
 abbrev μ-loop : tie.MeasureT-loop
-μ-loop names sizes k bytes size from i₀ i = size - i
+μ-loop names sizes k bytes size from i₀ i = i
 
 -- the name has as many bytes as count, and so has the name at place k, of which byte i stands 16 * k + i bytes from the front
 module _ (names bytes : List ℕ) (k size n : ℕ) (most : size ≤ 16) (whole : length bytes ≡ 16) (room : 16 * k + 16 ≤ length names) (fits : n ≤ 16) where
@@ -49,8 +53,21 @@ returns c =
 mul-from : tie.Need-mul-from Inv-loop μ-loop
 mul-from c = omega arith
 
+-- both have as many bytes, none of them from there on
 loop-holds : tie.Need-loop-holds Inv-loop μ-loop
-loop-holds c = (omega arith, refl)
+loop-holds c =
+    let args = c .before .before .args in
+    let pre = c .before .before .pre in
+    let sizes = sizes-are (args .names .now) (args .bytes .now) (args .k) (args .size) _ (pre .3) (pre .4) (pre .1) (pre .2) in
+    let name = name-of (args .bytes .now) (args .size) in
+    let other = other-of (args .names .now) (args .sizes .now) (args .k) in (
+      omega arith,
+      drop-of-length-le name {i = args .size} (omega (arith, sizes .0))
+          ∙ sym (drop-of-length-le other {i = args .size} (omega (arith, sizes .1, c .if1 .left))),
+    )
+
+sub-i : tie.Need-sub-i Inv-loop μ-loop
+sub-i c = omega arith
 
 add-if2 : tie.Need-add-if2 Inv-loop μ-loop
 add-if2 c = omega arith
@@ -65,17 +82,9 @@ returns-2 : tie.Need-returns-2 Inv-loop μ-loop
 returns-2 c =
     let args = c .before .before .before .before .before .before .before .args in
     let pre = c .before .before .before .before .before .before .before .pre in
-    let loop = c .before .before .before .before .loop in
-    let sizes = sizes-are (args .names .now) (args .bytes .now) (args .k) (args .size) _ (pre .3) (pre .4) (pre .1) (pre .2) in
-    let bytes =
-    bytes-are (args .names .now) (args .bytes .now) (args .k) (args .size) _ (pre .3) (pre .4) (pre .1) (pre .2) (loop .i) (omega arith) (omega arith) in
-    sym
-    (loop .inv .1
-    ∙ same-differs _ _ (loop .i) (rw (sizes .0) (omega arith)) (rw (sizes .1) (omega arith))
-    (λ e. c .if2 .taken (sym (bytes .1) ∙ sym e ∙ bytes .0)))
-
-add-i : tie.Need-add-i Inv-loop μ-loop
-add-i c = omega arith
+    let i = c .before .before .before .before .loop .i - 1 in
+    let bytes = bytes-are (args .names .now) (args .bytes .now) (args .k) (args .size) _ (pre .3) (pre .4) (pre .1) (pre .2) i (omega arith) (omega arith) in
+    sym (same-unlike _ _ i (λ e. c .if2 .taken (sym (bytes .1) ∙ sym e ∙ bytes .0)))
 
 loop-less : tie.Need-loop-less Inv-loop μ-loop
 loop-less c = omega arith
@@ -85,21 +94,22 @@ loop-again c =
     let args = c .before .before .before .before .before .before .before .args in
     let pre = c .before .before .before .before .before .before .before .pre in
     let loop = c .before .before .before .before .loop in
+    let i = loop .i - 1 in
+    let next : suc i ≡ loop .i = omega arith in
+    let name = name-of (args .bytes .now) (args .size) in
+    let other = other-of (args .names .now) (args .sizes .now) (args .k) in
     let sizes = sizes-are (args .names .now) (args .bytes .now) (args .k) (args .size) _ (pre .3) (pre .4) (pre .1) (pre .2) in
-    let bytes =
-    bytes-are (args .names .now) (args .bytes .now) (args .k) (args .size) _ (pre .3) (pre .4) (pre .1) (pre .2) (loop .i) (omega arith) (omega arith) in (
+    let bytes = bytes-are (args .names .now) (args .bytes .now) (args .k) (args .size) _ (pre .3) (pre .4) (pre .1) (pre .2) i (omega arith) (omega arith) in (
       omega arith,
-      loop .inv .1
-          ∙ same-passed _ _ (loop .i) (rw (sizes .0) (omega arith)) (rw (sizes .1) (omega arith)) (bytes .0 ∙ sym (c .if2 .left) ∙ sym (bytes .1)),
+      drop-cons name i 0 (omega (arith, sizes .0))
+          ∙ ap₂ _∷_ (bytes .0 ∙ sym (c .if2 .left) ∙ sym (bytes .1)) (rw next (loop .inv .1))
+          ∙ sym (drop-cons other i 0 (omega (arith, sizes .1, c .before .before .before .before .before .if1 .left))),
     )
 
 returns-3 : tie.Need-returns-3 Inv-loop μ-loop
 returns-3 c =
-    let args = c .before .before .before .before .args in
-    let pre = c .before .before .before .before .pre in
-    let loop = c .before .loop in
-    let sizes = sizes-are (args .names .now) (args .bytes .now) (args .k) (args .size) _ (pre .3) (pre .4) (pre .1) (pre .2) in
-    sym (loop .inv .1 ∙ same-end _ _ (loop .i) (rw (sizes .0) (c .loop-test .left)) (rw (sizes .1) (omega arith)))
+    let first : c .before .loop .i ≡ 0 = omega arith in
+    sym (same-iff _ _ .1 (rw first at (c .before .loop .inv .1)))
 
 pub is-name-spec : {M : Type 1} → statement M
 is-name-spec =
@@ -112,11 +122,11 @@ is-name-spec =
     returns
     mul-from
     loop-holds
+    sub-i
     add-if2
     shared-slice-read-if2
     element-copy-out-if2
     returns-2
-    add-i
     loop-less
     loop-again
     returns-3)

@@ -46,6 +46,50 @@ delivery-columns start =
       seconds = start .args .limits .now;
     }
 
+-- the columns as they came back
+abbrev engines-after : tie.After-add → Columns
+engines-after c =
+    record {
+      names = c .add .last .1 .1 .1 .1 .1 .1 .1 .1 .1 .0;
+      sizes = c .add .last .1 .1 .1 .1 .1 .1 .1 .1 .1 .1 .0;
+      firsts = c .add .last .1 .1 .1 .1 .1 .1 .1 .1 .1 .1 .1 .0;
+      seconds = c .add .last .1 .1 .1 .1 .1 .1 .1 .1 .1 .1 .1 .1 .0;
+    }
+
+abbrev deliveries-after : tie.After-add2 → Columns
+deliveries-after c =
+    record {
+      names = c .add2 .last .1 .1 .1 .1 .1 .1 .1 .1 .1 .0;
+      sizes = c .add2 .last .1 .1 .1 .1 .1 .1 .1 .1 .1 .1 .0;
+      firsts = c .add2 .last .1 .1 .1 .1 .1 .1 .1 .1 .1 .1 .1 .0;
+      seconds = c .add2 .last .1 .1 .1 .1 .1 .1 .1 .1 .1 .1 .1 .1 .0;
+    }
+
+-- the item is added, or has a fault
+engine-adds : (c : tie.After-add) → let start = c .before .before .before .before .before .before .before .before .before .before .before .before .before .before .before .before .before .before .before .before .before .before .before .before .before .before in
+    Adds (start .args .engines) 12 0 5000000 0 1000000000 (valued (c .before .before .before .before .before .before .before .before .before .before .before .before) .0) (engine-columns start) (engines-after c) (c .add .result)
+engine-adds c =
+    let four = valued (c .before .before .before .before .before .before .before .before .before .before .before .before) in
+    c .add .ensures (four .0) (ap fieldValue (c .before .before .before .before .before .before .before .before .before .before .field2 .ensures) ∙ four .1 .second) (ap fieldValue (c .before .before .before .before .before .before .before .before .before .field3 .ensures) ∙ four .1 .third)
+    (ap fieldValue (c .before .before .before .before .before .before .before .before .field4 .ensures) ∙ four .1 .fourth)
+
+delivery-adds : (c : tie.After-add2) → let start = c .before .before .before .before .before .before .before .before .before .before .before .before .before .before .before .before .before .before .before .before .before .before .before .before .before .before .before .before .before in
+    Adds (start .args .deliveries) 64 1 1000000000 1 12 (valued (c .before .before .before .before .before .before .before .before .before .before .before .before .before .before .before) .0) (delivery-columns start) (deliveries-after c) (c .add2 .result)
+delivery-adds c =
+    let four = valued (c .before .before .before .before .before .before .before .before .before .before .before .before .before .before .before) in
+    c .add2 .ensures (four .0) (ap fieldValue (c .before .before .before .before .before .before .before .before .before .before .before .before .before .field2 .ensures) ∙ four .1 .second) (ap fieldValue (c .before .before .before .before .before .before .before .before .before .before .before .before .field3 .ensures) ∙ four .1 .third)
+    (ap fieldValue (c .before .before .before .before .before .before .before .before .before .before .before .field4 .ensures) ∙ four .1 .fourth)
+
+-- the word that led there
+engine-kind : (c : tie.After-add) → true ≡ same (valued (c .before .before .before .before .before .before .before .before .before .before .before .before) .0 .first) (ascii "engine")
+engine-kind c = sym (c .before .before .before .before .before .if3 .taken) ∙ is-engine (c .before .before .before .before .before .before)
+
+other-kind : (c : tie.After-add2) → false ≡ same (valued (c .before .before .before .before .before .before .before .before .before .before .before .before .before .before .before) .0 .first) (ascii "engine")
+other-kind c = sym (c .before .before .before .before .before .before .before .before .if3 .left) ∙ is-engine (c .before .before .before .before .before .before .before .before .before)
+
+delivery-kind : (c : tie.After-add2) → true ≡ same (valued (c .before .before .before .before .before .before .before .before .before .before .before .before .before .before .before) .0 .first) (ascii "delivery")
+delivery-kind c = sym (c .before .before .before .before .before .if4 .taken) ∙ is-delivery (c .before .before .before .before .before .before)
+
 cut-requires : tie.Need-cut-requires
 cut-requires c κs = search needs
 
@@ -99,13 +143,8 @@ returns-3 : tie.Need-returns-3
 returns-3 c =
     let call = c .before .before .before .before .before .before .before .before .before .before in
     let start = call .before .before .before .before .before .before .before .before .before .before .before .before .before .before .before .before .before .before .before .before .before .before .before .before .before .before in
-    let four = valued (call .before .before .before .before .before .before .before .before .before .before .before .before) in
-    let v = four .1 in
-    let kind = sym (call .before .before .before .before .before .if3 .taken) ∙ is-engine (call .before .before .before .before .before .before) in
-    let adds =
-    call .add .ensures (four .0) (ap fieldValue (call .before .before .before .before .before .before .before .before .before .before .field2 .ensures) ∙ v .second)
-    (ap fieldValue (call .before .before .before .before .before .before .before .before .before .field3 .ensures) ∙ v .third) (ap fieldValue (call .before .before .before .before .before .before .before .before .field4 .ensures) ∙ v .fourth) in
-    engine-added v _ _ _ (delivery-columns start) _ (delivery-columns start) kind (rw (c .enum-told .given .1) at adds) (start .pre .1)
+    engine-added (valued (call .before .before .before .before .before .before .before .before .before .before .before .before) .1) (start .args .engines) (start .args .deliveries) (engine-columns start) (delivery-columns start) (engines-after call)
+    (delivery-columns start) (engine-kind call) (rw (c .enum-told .given .1) at (engine-adds call)) (start .pre .1)
 
 same-length-5 : tie.Need-same-length-5
 same-length-5 c = search needs
@@ -123,13 +162,8 @@ returns-4 : tie.Need-returns-4
 returns-4 c =
     let call = c .before .before .before .before .before .before .before .before .before .before .before in
     let start = call .before .before .before .before .before .before .before .before .before .before .before .before .before .before .before .before .before .before .before .before .before .before .before .before .before .before in
-    let four = valued (call .before .before .before .before .before .before .before .before .before .before .before .before) in
-    let v = four .1 in
-    let kind = sym (call .before .before .before .before .before .if3 .taken) ∙ is-engine (call .before .before .before .before .before .before) in
-    let adds =
-    call .add .ensures (four .0) (ap fieldValue (call .before .before .before .before .before .before .before .before .before .before .field2 .ensures) ∙ v .second)
-    (ap fieldValue (call .before .before .before .before .before .before .before .before .before .field3 .ensures) ∙ v .third) (ap fieldValue (call .before .before .before .before .before .before .before .before .field4 .ensures) ∙ v .fourth) in
-    engine-faulty v _ _ _ _ _ _ kind _ (rw (c .before .verdict .given .1) at adds)
+    engine-faulty (valued (call .before .before .before .before .before .before .before .before .before .before .before .before) .1) (start .args .engines) (start .args .deliveries) (engine-columns start) (delivery-columns start) (engines-after call)
+    (delivery-columns start) (engine-kind call) _ (rw (c .before .verdict .given .1) at (engine-adds call))
 
 slice-aggregate-is-word-2 : tie.Need-slice-aggregate-is-word-2
 slice-aggregate-is-word-2 c = search needs
@@ -163,14 +197,8 @@ returns-5 : tie.Need-returns-5
 returns-5 c =
     let call = c .before .before .before .before .before .before .before .before .before .before in
     let start = call .before .before .before .before .before .before .before .before .before .before .before .before .before .before .before .before .before .before .before .before .before .before .before .before .before .before .before .before .before in
-    let four = valued (call .before .before .before .before .before .before .before .before .before .before .before .before .before .before .before) in
-    let v = four .1 in
-    let other = sym (call .before .before .before .before .before .before .before .before .if3 .left) ∙ is-engine (call .before .before .before .before .before .before .before .before .before) in
-    let kind = sym (call .before .before .before .before .before .if4 .taken) ∙ is-delivery (call .before .before .before .before .before .before) in
-    let adds =
-    call .add2 .ensures (four .0) (ap fieldValue (call .before .before .before .before .before .before .before .before .before .before .before .before .before .field2 .ensures) ∙ v .second)
-    (ap fieldValue (call .before .before .before .before .before .before .before .before .before .before .before .before .field3 .ensures) ∙ v .third) (ap fieldValue (call .before .before .before .before .before .before .before .before .before .before .before .field4 .ensures) ∙ v .fourth) in
-    delivery-added v _ _ (engine-columns start) _ (engine-columns start) _ other kind (rw (c .enum-told2 .given .1) at adds) (start .pre .0)
+    delivery-added (valued (call .before .before .before .before .before .before .before .before .before .before .before .before .before .before .before) .1) (start .args .engines) (start .args .deliveries) (engine-columns start) (delivery-columns start) (engine-columns start)
+    (deliveries-after call) (other-kind call) (delivery-kind call) (rw (c .enum-told2 .given .1) at (delivery-adds call)) (start .pre .0)
 
 same-length-13 : tie.Need-same-length-13
 same-length-13 c = search needs
@@ -188,14 +216,8 @@ returns-6 : tie.Need-returns-6
 returns-6 c =
     let call = c .before .before .before .before .before .before .before .before .before .before .before in
     let start = call .before .before .before .before .before .before .before .before .before .before .before .before .before .before .before .before .before .before .before .before .before .before .before .before .before .before .before .before .before in
-    let four = valued (call .before .before .before .before .before .before .before .before .before .before .before .before .before .before .before) in
-    let v = four .1 in
-    let other = sym (call .before .before .before .before .before .before .before .before .if3 .left) ∙ is-engine (call .before .before .before .before .before .before .before .before .before) in
-    let kind = sym (call .before .before .before .before .before .if4 .taken) ∙ is-delivery (call .before .before .before .before .before .before) in
-    let adds =
-    call .add2 .ensures (four .0) (ap fieldValue (call .before .before .before .before .before .before .before .before .before .before .before .before .before .field2 .ensures) ∙ v .second)
-    (ap fieldValue (call .before .before .before .before .before .before .before .before .before .before .before .before .field3 .ensures) ∙ v .third) (ap fieldValue (call .before .before .before .before .before .before .before .before .before .before .before .field4 .ensures) ∙ v .fourth) in
-    delivery-faulty v _ _ _ _ _ _ other kind _ (rw (c .before .verdict2 .given .1) at adds)
+    delivery-faulty (valued (call .before .before .before .before .before .before .before .before .before .before .before .before .before .before .before) .1) (start .args .engines) (start .args .deliveries) (engine-columns start) (delivery-columns start) (engine-columns start)
+    (deliveries-after call) (other-kind call) (delivery-kind call) _ (rw (c .before .verdict2 .given .1) at (delivery-adds call))
 
 returns-7 : tie.Need-returns-7
 returns-7 c =

@@ -1,9 +1,9 @@
--- `export::number_of` meets its contract: by the fault.
+-- `planning::number_of` meets its contract: by the fault.
 -- Assumes nothing.
 use borrow.Author.Needs.{needs}
 use Rattle.planning.specs.Refusals.{faultNumber}
-use Rattle.export.proofs.number_of.Statement.{statement}
-use Rattle.export.proofs.number_of.Tie as tie
+use Rattle.planning.proofs.number_of.Statement.{statement}
+use Rattle.planning.proofs.number_of.Tie as tie
 
 enum-told : tie.Need-enum-told
 enum-told c = search needs

@@ -1,0 +1,83 @@
+-- `export::fothwen_plan_file` meets its contract: what `plan_file` ensures, with the result in one number.
+-- Assumes nothing.
+use mathlib.Core.Path.{_≡_, sym, ap, _∙_}
+use borrow.Author.Needs.{needs}
+use Rattle.export.specs.Laws.{word-small}
+use Rattle.export.specs.Packed.{packedFile}
+use Rattle.export.proofs.fothwen_plan_file.Statement.{statement}
+use Rattle.export.proofs.fothwen_plan_file.Tie as tie
+
+plan-file-requires : tie.Need-plan-file-requires
+plan-file-requires c κs = search needs
+
+enum-known-r : tie.Need-enum-known-r
+enum-known-r c = search needs
+
+word-of-requires : tie.Need-word-of-requires
+word-of-requires c κs = search needs
+
+pack-requires : tie.Need-pack-requires
+pack-requires c κs = word-small _ _ (c .word-of .ensures)
+
+enum-known-r-2 : tie.Need-enum-known-r-2
+enum-known-r-2 c = search needs
+
+number-of-requires : tie.Need-number-of-requires
+number-of-requires c κs = search needs
+
+pack-requires-2 : tie.Need-pack-requires-2
+pack-requires-2 c κs = search needs
+
+same-length : tie.Need-same-length
+same-length c = search needs
+
+same-length-2 : tie.Need-same-length-2
+same-length-2 c = search needs
+
+same-length-3 : tie.Need-same-length-3
+same-length-3 c = search needs
+
+returns : tie.Need-returns
+unfolding packedFile
+returns c =
+    let told = c .before .before .before .before .before .before .before .before .before .before .before .plan-file .ensures in (
+      (rw (c .before .word-of .ensures) at (c .pack .ensures)) ∙ ap packedFile (sym (c .before .before .before .r .given .1) ∙ told .0),
+      (told .1 .0, (told .1 .1 .0, told .1 .1 .1 .0)),
+    )
+
+same-length-4 : tie.Need-same-length-4
+same-length-4 c = search needs
+
+same-length-5 : tie.Need-same-length-5
+same-length-5 c = search needs
+
+same-length-6 : tie.Need-same-length-6
+same-length-6 c = search needs
+
+returns-2 : tie.Need-returns-2
+unfolding packedFile
+returns-2 c =
+    let told = c .before .before .before .before .before .before .before .before .before .before .before .plan-file .ensures in (
+      (rw (c .before .number-of .ensures) at (c .pack2 .ensures)) ∙ ap packedFile (sym (c .before .before .before .r2 .given .1) ∙ told .0),
+      (told .1 .0, (told .1 .1 .0, told .1 .1 .1 .0)),
+    )
+
+pub fothwen-plan-file-spec : {M : Type 1} → statement M
+fothwen-plan-file-spec =
+    tie.close
+    (tie.spec
+    plan-file-requires
+    enum-known-r
+    word-of-requires
+    pack-requires
+    enum-known-r-2
+    number-of-requires
+    pack-requires-2
+    same-length
+    same-length-2
+    same-length-3
+    returns
+    same-length-4
+    same-length-5
+    same-length-6
+    returns-2)

@@ -1,0 +1,170 @@
+-- The call that prints its refusal too prints as the program `planner` does, where it is lent what the program brings: document 01's print
+-- of the input, and never a refusal by 9.
+-- Assumes nothing.
+use mathlib.Core.Path.{_≡_, refl, sym, ap, _∙_}
+use mathlib.Core.Logic.{_⊎_, inl, inr}
+use mathlib.Core.Bool.{Bool, true, false, cond}
+use mathlib.Core.List.{List, [], _∷_}
+use Prim.Native.Nat.{ℕ, _+_, _≤_, _<_}
+use native.Mathlib.Omega.{arith}
+use lib.ListN.{length, take, drop, getD, length-append}
+use lib.Dec.{leb}
+use borrow.Author.Tests.{le-leb}
+use Rattle.csv.specs.Grammar.{File}
+use Rattle.csv.specs.Laws.Files.{file-unique}
+use Rattle.csv.specs.Laws.RecordSpans.{records-count}
+use Rattle.csv.specs.Records.{records}
+use Rattle.csv.specs.Text.{ascii}
+use Rattle.csv.specs.Writer.{written, writtenLine, writtenFile}
+use Rattle.planning.specs.declared.Fault.the-variants.{Space}
+use Rattle.planning.specs.declared.Outcome.{Outcome}
+use Rattle.planning.specs.declared.Outcome.the-variants.{Found, None, Stopped}
+use Rattle.planning.specs.declared.Refusal.{Refusal}
+use Rattle.planning.specs.Bounds.{mostCells, mostEngines}
+use Rattle.planning.specs.Laws.Finite.Decisions.{le-or-lt}
+use Rattle.planning.specs.Laws.Numbers.{within-iff}
+use Rattle.planning.specs.Modes.{planned, overFront}
+use Rattle.planning.specs.Numbers.{within}
+use Rattle.planning.specs.Refusals.{faultNumber}
+use Rattle.planfile.specs.Bounds.{mostBytes}
+use Rattle.planfile.specs.FileCall.{FileCall, printed, readCall, answerBy, answerToFile, onExit, fileOutput, printLengthBy, printLength, printOutputBy, printOutput, programBy, programPrint}
+use Rattle.planfile.specs.FilePlan.{FilePlan, unnamed}
+use Rattle.planfile.specs.Laws.Decimals.{decimal-read}
+use Rattle.planfile.specs.Laws.Holding.{accepted-holds}
+use Rattle.planfile.specs.Laws.Print.{print-reads, refusal-reads}
+use Rattle.planfile.specs.Laws.PrintLength.{number-length, line-length, print-length}
+use Rattle.planfile.specs.Laws.Promises.{call-accepted, file-numbered, front-taken}
+use Rattle.planfile.specs.Laws.Refusals.{refusal-placed}
+use Rattle.planfile.specs.Laws.Tests.{numeral-unique}
+use Rattle.planfile.specs.Numerals.{decimal}
+use Rattle.planfile.specs.Print.{Line, wordOf, answerLines, refusalPrint}
+use Rattle.planfile.specs.Promises.{Numbered, PrintsAsProgram}
+use Rattle.planfile.specs.Reading.{Read, refused, accepted, _>>=_, fault, require, readFile}
+
+-- ---- a file's refusal
+
+-- the line that is printed of a refusal
+abbrev refusalLine : Refusal → Line
+refusalLine refusal = ascii "refused" ∷ decimal (faultNumber (refusal .fault)) ∷ decimal (refusal .place) ∷ ascii "0" ∷ []
+
+-- the place of a numbered refusal is at most the count of records
+numbered-place : (count number place : ℕ) → Numbered count number place → place ≤ count
+numbered-place count number place n = go (le-or-lt 2 number) (le-or-lt number 7)
+  where
+    go : (2 ≤ number) ⊎ (number < 2) → (number ≤ 7) ⊎ (7 < number) → place ≤ count
+    go (inl l) (inl m) = n .counted (record { least = l; most = m }) .most
+    go (inl l) (inr m) = omega (arith, n .nowhere (λ w. omega (arith, w .most)))
+    go (inr l) m = omega (arith, n .nowhere (λ w. omega (arith, w .least)))
+
+module _ (bytes : List ℕ) (refusal : Refusal) (e : readFile bytes ≡ refused refusal) where
+  -- its number is at most 8, and its place goes with that number
+  numbered : (faultNumber (refusal .fault) ≤ 8) × Numbered (length (records bytes)) (faultNumber (refusal .fault)) (refusal .place)
+  numbered = file-numbered _ (refusal .place) (refusal .fault) (refusal-placed bytes refusal e)
+
+  -- its place is 0 where the size is at fault, and otherwise one of at most 32,769 records
+  place-most : refusal .place ≤ mostBytes + 1
+  place-most = go (within 1 mostBytes (length bytes)) refl
+    where
+      go : (t : Bool) → within 1 mostBytes (length bytes) ≡ t → refusal .place ≤ mostBytes + 1
+      go true t =
+          omega (
+            arith,
+            numbered-place _ _ (refusal .place) (numbered .1),
+            records-count bytes,
+            within-iff 1 mostBytes (length bytes) .0 t .most,
+          )
+      go false t = unfold readFile _>>=_ require fault in
+          let nowhere : refusal .place ≡ 0 = cc in omega arith
+
+  -- the word, one digit and five, "0", three commas, CR and LF
+  refusal-length : length (refusalPrint refusal) ≤ 19
+  unfolding refusalPrint writtenFile written ascii
+  refusal-length =
+      omega (
+        arith,
+        length-append (writtenLine (refusalLine refusal)) [],
+        line-length (ascii "refused") (decimal (faultNumber (refusal .fault))) (decimal (refusal .place)) (ascii "0"),
+        number-length (faultNumber (refusal .fault)) 1 (omega (arith, numbered .0)) (omega arith),
+        number-length (refusal .place) 5 (omega (arith, place-most)) (omega arith),
+      )
+
+-- ---- what the call prints
+
+module _ (call : FileCall) (table : length (call .table) ≡ mostCells) (spare : length (call .spare) ≡ mostEngines)
+    (output : 6715 ≤ length (call .output)) where
+  -- the answer's print has space in 6,715 bytes, and so has a refusal's
+  print-whole : take (printLength call) (printOutput call) ≡ programPrint (call .file)
+  unfolding printLength printLengthBy printOutput printOutputBy answerToFile answerBy fileOutput onExit programPrint programBy
+  print-whole = go (readFile (call .file)) refl
+    where
+      go : (m : Read FilePlan) → readFile (call .file) ≡ m → take (printLength call) (printOutput call) ≡ programBy m
+      go (refused refusal) e =
+          let read : readCall call ≡ refused refusal = unfold readCall _>>=_ in rw e in
+          rw (read, le-leb (length (refusalPrint refusal)) (length (call .output)) (omega (arith, refusal-length (call .file) refusal e)))
+          (front-taken (refusalPrint refusal) (call .output) refl)
+      go (accepted f) e =
+          let h = accepted-holds (call .file) f e in
+          let fits : length (printed f) ≤ length (call .output) = omega (arith, print-length f (h .enginesNamed) (h .deliveriesNamed) (h .inRange)) in
+          rw (call-accepted call (record { plan = f; held = h; table = table; spare = spare; output = fits }))
+          (front-taken (printed f) (call .output) refl)
+
+-- ---- never a refusal by 9
+
+-- field k of line 1
+abbrev fieldOf : (k : ℕ) → List Line → List ℕ
+fieldOf k lines = getD (getD lines 0 []) k []
+
+-- no answer's word is a refusal's
+word-unlike : (o : Outcome) → wordOf o ≡ ascii "refused" → ⊥
+unfolding wordOf ascii
+word-unlike Found e = omega (arith, ap (λ (word : List ℕ). getD word 0 0) e)
+word-unlike None e = omega (arith, ap (λ (word : List ℕ). getD word 0 0) e)
+word-unlike Stopped e = omega (arith, ap (λ (word : List ℕ). getD word 0 0) e)
+
+-- no two numbers are written alike
+decimal-injective : (n m : ℕ) → decimal n ≡ decimal m → n ≡ m
+decimal-injective n m e = numeral-unique (decimal-read n) (rw e (decimal-read m))
+
+-- the print of an input begins with an answer's word, or gives a file's fault: 9 is none
+never-nine : (input : List ℕ) (refusal : Refusal) → refusal .fault ≡ Space → programPrint input ≡ refusalPrint refusal → ⊥
+unfolding programPrint programBy
+never-nine input refusal space = go (readFile input) refl
+  where
+    -- a print that is the refusal's reads as its line
+    read-as : {print : List ℕ} {lines : List Line} → File print lines → print ≡ refusalPrint refusal → lines ≡ refusalLine refusal ∷ []
+    read-as file same = file-unique file (rw same (refusal-reads refusal))
+
+    go : (m : Read FilePlan) → readFile input ≡ m → programBy m ≡ refusalPrint refusal → ⊥
+    go (refused other) e same = unfold faultNumber in
+        let nine = decimal-injective _ _ (ap (fieldOf 1) (read-as (refusal-reads other) same)) in
+        omega (arith, numbered input other e .0, nine, ap faultNumber space)
+    go (accepted f) e same = unfold printed answerLines in
+        let h = accepted-holds input f e in
+        word-unlike _ (ap (fieldOf 0) (read-as (print-reads f (h .enginesNamed) (h .deliveriesNamed) (planned (unnamed f))) same))
+
+-- ---- the clause of the contract
+
+-- so the call prints as the program does
+pub prints-as-program : (call : FileCall) → PrintsAsProgram call (printLength call) (printOutput call)
+unfolding PrintsAsProgram
+prints-as-program call table spare output =
+    let whole = print-whole call table spare output in
+    record { whole = whole; neverSpace = λ refusal space same. never-nine (call .file) refusal space (sym whole ∙ same) }
+
+-- whatever is lent, the print is within the output
+pub print-inside : (call : FileCall) → printLength call ≤ length (printOutput call)
+unfolding printLength printOutput answerToFile fileOutput
+print-inside call = go (readCall call)
+  where
+    over : (print lent : List ℕ) → length print ≤ length (overFront print lent)
+    over print lent = unfold overFront in omega (arith, length-append print (drop (length print) lent))
+
+    by : (t : Bool) (print : List ℕ) → cond t (length print) 0 ≤ length (cond t (overFront print (call .output)) (call .output))
+    by true print = over print (call .output)
+    by false print = omega arith
+
+    go : (m : Read FilePlan)
+        → printLengthBy (answerBy m) (length (call .output)) ≤ length (printOutputBy (answerBy m) (onExit m (call .output) (λ f. overFront (printed f) (call .output))))
+    go (refused refusal) = unfold printLengthBy printOutputBy answerBy onExit in
+        by (leb (length (refusalPrint refusal)) (length (call .output))) (refusalPrint refusal)
+    go (accepted f) = unfold printLengthBy printOutputBy answerBy onExit in over (printed f) (call .output)

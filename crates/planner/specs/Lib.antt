@@ -1,0 +1,2 @@
+-- What the planner reads.
+pub mod Input

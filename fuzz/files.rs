@@ -1,0 +1,463 @@
+// Feeds random files, valid and damaged, to the proved call and to the reference, and compares the answers and everything lent: the tables,
+// the output, and a margin around each that nobody may touch.
+
+#[path = "../tests/reference.rs"]
+mod reference;
+#[path = "../tests/proved.rs"]
+mod proved;
+
+use reference::{Answer, PRINT_BYTES, SPARE_NUMBERS, TABLE_NUMBERS};
+
+const FILE_BYTES: usize = 32_768;
+
+/// Splitmix64.
+struct Random(u64);
+
+impl Random {
+    fn next(&mut self) -> u64 {
+        self.0 = self.0.wrapping_add(0x9E37_79B9_7F4A_7C15);
+        let mut z = self.0;
+        z = (z ^ (z >> 30)).wrapping_mul(0xBF58_476D_1CE4_E5B9);
+        z = (z ^ (z >> 27)).wrapping_mul(0x94D0_49BB_1331_11EB);
+        z ^ (z >> 31)
+    }
+
+    fn below(&mut self, bound: u64) -> u64 { self.next() % bound }
+
+    fn between(&mut self, low: u64, high: u64) -> u64 { low + self.below(high - low + 1) }
+
+    fn place(&mut self, length: usize) -> usize { self.below(length as u64) as usize }
+
+    fn percent(&mut self, share: u64) -> bool { self.below(100) < share }
+
+    fn pick<T: Clone>(&mut self, from: &[T]) -> T { from[self.place(from.len())].clone() }
+}
+
+// Files
+
+/// A record by the values of its fields; they are quoted as the file is written.
+type Record = Vec<Vec<u8>>;
+
+fn record(kind: &str, name: Vec<u8>, first: u64, second: u64) -> Record {
+    vec![kind.into(), name, first.to_string().into(), second.to_string().into()]
+}
+
+fn plan_record(random: &mut Random) -> Record {
+    let mode = if random.percent(30) { "shortest" } else { "fixed" };
+    let minutes = match random.below(10) {
+        0 => 1,
+        1 => random.between(2, 59),
+        2 => 10_080,
+        3 | 4 => random.between(61, 10_080),
+        _ => 60,
+    };
+    let tries = match random.below(4) {
+        0 => random.below(3),
+        1 => random.below(40),
+        2 => random.below(400),
+        _ => random.below(3_000),
+    };
+    record("plan", mode.into(), minutes, tries)
+}
+
+/// A name that none of `used` is: short and plain, or of any bytes a name may have, quotes and commas among them often.
+fn fresh_name(random: &mut Random, used: &mut Vec<Vec<u8>>) -> Vec<u8> {
+    loop {
+        let length = random.pick(&[1, 2, 3, 8, 15, 16, 16]);
+        let name: Vec<u8> = match random.below(5) {
+            0 | 1 => format!("{}{}", random.pick(&["E", "D", "Hall ", "x"]), random.below(1_000)).into(),
+            2 => (0..length).map(|_| random.pick(&[b'"', b',', b' ', b'a'])).collect(),
+            _ => (0..length).map(|_| random.between(0x20, 0x7E) as u8).collect(),
+        };
+        if !used.contains(&name) {
+            used.push(name.clone());
+            return name;
+        }
+    }
+}
+
+/// Watts and fuel that give about this capacity, by either bound, and exactly it where the minutes are 60.
+fn engine_numbers(random: &mut Random, capacity: u64, minutes: u64) -> (u64, u64) {
+    let watts = ((capacity * 60 + minutes - 1) / minutes).min(5_000_000);
+    match random.below(4) {
+        0 => ((watts + random.below(500)).min(5_000_000), capacity),
+        1 => (watts, capacity + random.below(3)),
+        _ => (watts, 1_000_000_000),
+    }
+}
+
+/// Capacities of one scale, often equal to each other and sometimes 0, so that ties and exact fits are common.
+fn capacities(random: &mut Random, count: u64) -> Vec<u64> {
+    let scale = random.pick(&[3, 10, 10, 100, 5_000, 4_000_000]);
+    let even = random.percent(40);
+    let same = random.between(1, scale);
+    let zeros = random.pick(&[0, 0, 10, 30]);
+    (0..count).map(|_| if random.percent(zeros) { 0 } else if even { same } else { random.between(1, scale) }).collect()
+}
+
+/// Energies whose sum is about a random share of the capacities' sum, with limits of one kind or mixed.
+fn demands(random: &mut Random, count: u64, total: u64) -> Vec<(u64, u64)> {
+    let share = random.pick(&[40, 70, 85, 95, 100, 105]);
+    let most = (total * share / 50 / count.max(1)).clamp(1, 1_000_000_000);
+    let even = random.percent(30);
+    let highest = random.pick(&[1, 2, 2, 3, 4, 12]);
+    (0..count).map(|_| {
+        let energy = if even { (most / 2).max(1) } else { random.between(1, most) };
+        (energy, random.between(1, highest))
+    }).collect()
+}
+
+/// Energies cut out of the capacities themselves: a tight plan that serves, and that a search seldom finds at once.
+fn tight_demands(random: &mut Random, capacities: &[u64]) -> Vec<(u64, u64)> {
+    let mut demands: Vec<(u64, u64)> = Vec::new();
+    for capacity in capacities {
+        let mut left = *capacity;
+        let parts = random.between(1, 4);
+        for part in (0..parts).rev() {
+            let piece = if part == 0 { left } else { random.below(left + 1) };
+            left -= piece;
+            match demands.last_mut() {
+                // The first piece of an engine may go to a delivery of the engine before it.
+                Some(last) if part + 1 == parts && piece > 0 && random.percent(30) => *last = (last.0 + piece, last.1 + 1),
+                _ if piece > 0 => demands.push((piece, 1)),
+                _ => {}
+            }
+        }
+    }
+    shuffle(random, &mut demands);
+    demands
+}
+
+fn shuffle<T>(random: &mut Random, list: &mut [T]) {
+    for last in (1..list.len()).rev() {
+        list.swap(last, random.place(last + 1));
+    }
+}
+
+/// A file that is accepted: a plan, then engines and deliveries in any mixture.
+fn valid_records(random: &mut Random) -> Vec<Record> {
+    let plan = plan_record(random);
+    let minutes = std::str::from_utf8(&plan[2]).unwrap().parse().unwrap();
+    let engines = random.between(1, 12);
+    let deliveries = if random.percent(70) { random.below(9) } else { random.between(0, 64) };
+    let capacities = capacities(random, engines);
+    let demands = match random.below(3) {
+        0 => tight_demands(random, &capacities),
+        _ => demands(random, deliveries, capacities.iter().sum()),
+    };
+    let (mut engine_names, mut delivery_names) = (Vec::new(), Vec::new());
+    let mut records = vec![plan];
+    for capacity in capacities {
+        let (watts, fuel) = engine_numbers(random, capacity, minutes);
+        records.push(record("engine", fresh_name(random, &mut engine_names), watts, fuel));
+    }
+    for (energy, limit) in demands {
+        records.push(record("delivery", fresh_name(random, &mut delivery_names), energy, limit));
+    }
+    if random.percent(50) {
+        shuffle(random, &mut records[1..]);
+    }
+    records
+}
+
+/// The bytes of the records, quoted where that is needed and often where it is not, with or without the last CR LF.
+fn written(random: &mut Random, records: &[Record]) -> Vec<u8> {
+    let share = random.pick(&[0, 0, 10, 50, 100]);
+    let mut file = Vec::new();
+    for record in records {
+        for (place, value) in record.iter().enumerate() {
+            if place > 0 {
+                file.push(b',');
+            }
+            if random.percent(share) || value.iter().any(|byte| b"\",\r\n".contains(byte)) {
+                file.push(b'"');
+                value.iter().for_each(|byte| if *byte == b'"' { file.extend(b"\"\"") } else { file.push(*byte) });
+                file.push(b'"');
+            } else {
+                file.extend(value);
+            }
+        }
+        file.extend(b"\r\n");
+    }
+    if random.percent(50) {
+        file.truncate(file.len().saturating_sub(2));
+    }
+    file
+}
+
+// Damage
+
+/// The records whose first field is `kind`; a plan may be among several, and damage may have left none.
+fn places(records: &[Record], kind: &[u8]) -> Vec<usize> {
+    (0..records.len()).filter(|place| records[*place].first().map_or(false, |first| first == kind)).collect()
+}
+
+fn insert(random: &mut Random, records: &mut Vec<Record>, record: Record) {
+    let place = random.place(records.len() + 1);
+    records.insert(place, record);
+}
+
+/// Adds engines or deliveries up to this count, with names of their own.
+fn crowd(random: &mut Random, records: &mut Vec<Record>, kind: &str, count: usize) {
+    for number in places(records, kind.as_bytes()).len()..count {
+        let place = random.between(1, records.len().max(1) as u64) as usize;
+        let name = format!("~{number}");
+        records.insert(place.min(records.len()), record(kind, name.into(), random.between(1, 9), 1));
+    }
+}
+
+/// A name used before, too long, empty or with a byte that no name has.
+fn damage_name(random: &mut Random, records: &mut [Record]) {
+    let kind = random.pick(&[&b"engine"[..], b"delivery"]);
+    let places = places(records, kind);
+    if places.is_empty() {
+        return;
+    }
+    let (from, to) = (random.pick(&places), random.pick(&places));
+    let name = match random.below(6) {
+        0 | 1 => records[from].get(1).cloned().unwrap_or_default(),
+        2 => vec![random.pick(b"a\", "); 17],
+        3 => vec![b'a'; random.between(18, 300) as usize],
+        4 => Vec::new(),
+        _ => {
+            let mut name = b"name".to_vec();
+            name[random.place(4)] = random.pick(b"\r\n\0\x1F\x7F\x80\xFF");
+            name
+        }
+    };
+    if let Some(place) = records[to].get_mut(1) {
+        *place = name;
+    }
+}
+
+/// A number at the bound of some range, above all of them, or against the form. Large allowances only go to files with few records, so that
+/// no search is long.
+fn damage_number(random: &mut Random, records: &mut [Record]) {
+    let at = if random.percent(30) { 0 } else { random.place(records.len()) };
+    let field = random.between(2, 3) as usize;
+    let value = match random.below(3) {
+        0 => random.pick(&["", "00", "01", "+1", "-1", " 1", "1 ", "1.0", "1e3", "0x1", "1,0", "1\"", "/", ":", "\r\n1"]).to_string(),
+        1 => random.pick(&["1000000001", "4294967297", "10000000000", "18446744073709551617", "99999999999999999999999"]).to_string(),
+        _ if at == 0 && field == 3 && records.len() > 7 => random.pick(&["0", "1", "2999"]).to_string(),
+        _ => random.pick(&["0", "1", "12", "13", "10080", "10081", "5000000", "5000001", "999999999", "1000000000"]).to_string(),
+    };
+    let value = if random.percent(3) { "1".repeat(random.between(20, 5_000) as usize) } else { value };
+    if let Some(place) = records[at].get_mut(field) {
+        *place = value.into();
+    }
+}
+
+/// Another word in the first field or in the plan's mode.
+fn damage_word(random: &mut Random, records: &mut [Record]) {
+    let (at, field) = if random.percent(30) { (0, 1) } else { (random.place(records.len()), 0) };
+    let words = ["", "plan", "engine", "delivery", "fixed", "shortest", "Plan", "engines", " engine", "delivery ", "Fixed", "\"fixed\""];
+    let word = random.pick(&words);
+    if let Some(place) = records[at].get_mut(field) {
+        *place = word.into();
+    }
+}
+
+fn damage_records(random: &mut Random, records: &mut Vec<Record>) {
+    let (at, other) = (random.place(records.len()), random.place(records.len()));
+    match random.below(19) {
+        0 => { let copy = records[at].clone(); insert(random, records, copy) }
+        1 => records.swap(at, other),
+        2 | 3 => { let count = random.pick(&[12, 13, 13, 14]); crowd(random, records, "engine", count) }
+        4 | 5 => { let count = random.pick(&[64, 65, 65, 66]); crowd(random, records, "delivery", count) }
+        6..=8 => damage_name(random, records),
+        9..=11 => damage_number(random, records),
+        12 => damage_word(random, records),
+        13 => { let plan = plan_record(random); insert(random, records, plan) }
+        14 => { records[at].pop(); }
+        15 => records[at].push(b"5".to_vec()),
+        16 | 17 => records.retain(|record| record.first().map_or(true, |kind| kind != b"engine")),
+        _ => insert(random, records, vec![Vec::new()]),
+    }
+    if records.is_empty() {
+        records.push(vec![Vec::new()]);
+    }
+}
+
+fn damage_bytes(random: &mut Random, file: &mut Vec<u8>) {
+    if file.is_empty() {
+        return;
+    }
+    let at = random.place(file.len());
+    match random.below(8) {
+        0 => file[at] ^= 1 << random.below(8),
+        1 => file[at] = random.next() as u8,
+        2 => { file.remove(at); }
+        3 | 4 => file.insert(at, random.pick(b"\"\",,\r\n \0\x1F\x7F\x80\xA0\xFF0a")),
+        5 => file.truncate(at),
+        6 => {
+            // A record's end loses or doubles one of its bytes, where the file has one.
+            if let Some(end) = (at..file.len()).find(|end| file[*end] == b'\r') {
+                match random.below(4) {
+                    0 => { file.remove(end); }
+                    1 => { file.remove((end + 1).min(file.len() - 1)); }
+                    2 => file.insert(end, b'\r'),
+                    _ => { file.splice(end..end, *b"\r\n"); }
+                }
+            }
+        }
+        _ => {
+            let end = (at + random.between(1, 40) as usize).min(file.len());
+            file.drain(at..end);
+        }
+    }
+}
+
+/// Lengthens the file to 32,768 bytes, or one more or less, by bytes of one kind somewhere in it.
+fn lengthen(random: &mut Random, file: &mut Vec<u8>) {
+    let length = random.pick(&[FILE_BYTES - 1, FILE_BYTES, FILE_BYTES, FILE_BYTES + 1, FILE_BYTES + 1, 40_000]);
+    let filler = random.pick(&[&b"a"[..], b",", b"\"", b"\"\"", b"1", b"\r\n", b"\n", b"x,"]);
+    let at = if random.percent(50) { file.len() } else { random.place(file.len() + 1) };
+    let missing = length.saturating_sub(file.len());
+    let open = if random.percent(30) { &b"\""[..] } else { b"" };
+    let more: Vec<u8> = open.iter().chain(filler.iter().cycle()).take(missing).cloned().collect();
+    file.splice(at..at, more);
+}
+
+fn random_file(random: &mut Random) -> Vec<u8> {
+    let mut records = valid_records(random);
+    let kind = random.below(100);
+    if (55..80).contains(&kind) {
+        for _ in 0..random.pick(&[1, 1, 1, 2, 3]) {
+            damage_records(random, &mut records);
+        }
+    }
+    let mut file = written(random, &records);
+    match kind {
+        75..=93 => for _ in 0..random.pick(&[1, 1, 1, 2, 5]) { damage_bytes(random, &mut file) },
+        94..=97 => lengthen(random, &mut file),
+        98 => file.clear(),
+        _ => {}
+    }
+    file
+}
+
+// Calls
+
+/// What is lent, inside a margin on both sides; each number and byte holds a value of its own, another in each case.
+#[derive(Clone, PartialEq)]
+struct Lent { table: Vec<u64>, spare: Vec<u64>, output: Vec<u8> }
+
+const MARGIN: usize = 16;
+
+struct Lengths { table: usize, spare: usize, output: usize }
+
+impl Lent {
+    fn new(lengths: &Lengths, salt: u64) -> Lent {
+        let numbers = |length: usize| (0..(length + 2 * MARGIN) as u64).map(|k| salt.rotate_left(k as u32 % 64) ^ k).collect();
+        let bytes = (0..lengths.output + 2 * MARGIN).map(|k| (salt >> (k % 57)) as u8 ^ k as u8).collect();
+        Lent { table: numbers(lengths.table), spare: numbers(lengths.spare), output: bytes }
+    }
+
+    fn call(&mut self, lengths: &Lengths, file: &[u8], plan_file: fn(&[u8], &mut [u64], &mut [u64], &mut [u8]) -> Answer) -> Answer {
+        let within = |length: usize| MARGIN..MARGIN + length;
+        let (table, spare) = (&mut self.table[within(lengths.table)], &mut self.spare[within(lengths.spare)]);
+        plan_file(file, table, spare, &mut self.output[within(lengths.output)])
+    }
+}
+
+/// Lengths to lend for a file with this answer: mostly right, often just enough output or one byte less.
+fn lengths(random: &mut Random, answer: Answer) -> Lengths {
+    let length = match answer {
+        Answer::Answered { length, .. } => length,
+        Answer::Refused { .. } => random.place(40),
+    };
+    let mut lengths = Lengths { table: TABLE_NUMBERS, spare: SPARE_NUMBERS, output: length + random.place(50) };
+    match random.below(50) {
+        0..=9 => lengths.output = length,
+        10..=12 => lengths.output = length.saturating_sub(1),
+        13 => lengths.output = random.place(length + 1),
+        14 => lengths.output = PRINT_BYTES,
+        15 => lengths.table = random.pick(&[0, 1, 12, 64, 767, 769, 780]),
+        16 => lengths.spare = random.pick(&[0, 1, 11, 13, 64, 768]),
+        _ => {}
+    }
+    lengths
+}
+
+/// Answers by mode and word, those whose print just fitted, and refusals by number.
+#[derive(Default)]
+struct Counts { answers: [[u64; 3]; 2], fitted: u64, refusals: [u64; 10] }
+
+impl Counts {
+    fn add(&mut self, answer: Answer, file: &[u8], lengths: &Lengths) {
+        match answer {
+            Answer::Refused { number, .. } => self.refusals[number as usize] += 1,
+            Answer::Answered { word, length, .. } => {
+                // The first 16 bytes of an accepted file are of its plan record.
+                let shortest = file.windows(8).take(9).any(|part| part == b"shortest");
+                self.answers[usize::from(shortest)][word as usize] += 1;
+                self.fitted += u64::from(length == lengths.output);
+            }
+        }
+    }
+
+    fn print(&self) {
+        for (mode, answers) in ["fixed", "shortest"].iter().zip(&self.answers) {
+            println!("{mode}: found {}, none {}, stopped {}", answers[0], answers[1], answers[2]);
+        }
+        println!("answers whose print filled the lent output exactly: {}", self.fitted);
+        for number in 1..=9 {
+            println!("refused {number}: {}", self.refusals[number]);
+        }
+    }
+}
+
+/// One file to both; an account of the difference where there is one.
+fn compare(seed: u64, case: u64, counts: &mut Counts) -> Result<(), String> {
+    let mut random = Random(Random(seed).next().wrapping_add(case));
+    let file = random_file(&mut random);
+    let enough = Lengths { table: TABLE_NUMBERS, spare: SPARE_NUMBERS, output: PRINT_BYTES };
+    let answer = Lent::new(&enough, 0).call(&enough, &file, reference::plan_file);
+    let lengths = lengths(&mut random, answer);
+    let mut ours = Lent::new(&lengths, random.next());
+    let mut theirs = ours.clone();
+    let proved = ours.call(&lengths, &file, proved::plan_file);
+    let expected = theirs.call(&lengths, &file, reference::plan_file);
+    if proved == expected && ours == theirs {
+        counts.add(expected, &file, &lengths);
+        return Ok(());
+    }
+    let escaped: String = file.iter().flat_map(|byte| std::ascii::escape_default(*byte)).map(char::from).collect();
+    let Lengths { table, spare, output } = lengths;
+    Err(format!("seed {seed}, case {case}: a difference\nfile of {} bytes: {escaped}\nlent: table {table}, spare {spare}, output {output}\n\
+        proved:    {proved:?}\nreference: {expected:?}\n{}", file.len(), differences(&ours, &theirs)))
+}
+
+/// Where the lent numbers and bytes first differ, as places in what was lent; a negative place is in the margin before it.
+fn differences(ours: &Lent, theirs: &Lent) -> String {
+    fn first<T: PartialEq + std::fmt::Debug>(what: &str, ours: &[T], theirs: &[T]) -> String {
+        match (0..ours.len()).find(|k| ours[*k] != theirs[*k]) {
+            Some(k) => format!("{what} at {}: proved {:?}, reference {:?}\n", k as i64 - MARGIN as i64, ours[k], theirs[k]),
+            None => format!("{what}: equal\n"),
+        }
+    }
+    first("table", &ours.table, &theirs.table) + &first("spare", &ours.spare, &theirs.spare) + &first("output", &ours.output, &theirs.output)
+}
+
+/// The number behind an option, where it is given.
+fn option(arguments: &[String], name: &str) -> Option<u64> {
+    let place = arguments.iter().position(|argument| argument == name)?;
+    Some(arguments.get(place + 1).and_then(|value| value.parse().ok()).expect("a number behind the option"))
+}
+
+fn main() {
+    let arguments: Vec<String> = std::env::args().skip(1).collect();
+    let seed = option(&arguments, "--seed").unwrap_or(1);
+    let count = option(&arguments, "--count").unwrap_or(400_000);
+    let cases = option(&arguments, "--case").map_or(0..count, |case| case..case + 1);
+    println!("seed {seed}, {} files", cases.end - cases.start);
+    let mut counts = Counts::default();
+    for case in cases {
+        if let Err(account) = compare(seed, case, &mut counts) {
+            print!("{account}");
+            std::process::exit(1);
+        }
+    }
+    counts.print();
+    println!("no difference");
+}
