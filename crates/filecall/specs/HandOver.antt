@@ -17,7 +17,7 @@ use Rattle.planfile.specs.declared.FileAnswer.the-variants.{Printed, Refused}
 use Rattle.planfile.specs.FileCall.{printed}
 use Rattle.planfile.specs.FilePlan.{FilePlan, unnamed, engineNames, deliveryNames}
 use Rattle.planfile.specs.Holding.{SoundName}
-use Rattle.planfile.specs.Reading.{Read, accepted, _>>=_, require}
+use Rattle.planfile.specs.Reading.{Read, accepted, require, _>>=_}
 use Rattle.filecall.specs.declared.reading.Plan.{Plan}
 use Rattle.filecall.specs.Items.{Holding}
 use Rattle.filecall.specs.PlanRead.{planIn, engineColumns, deliveryColumns}

@@ -1,5 +1,6 @@
 -- What is proved about the definitions beside this file.
 pub mod Parts
+pub mod Tabulated
 pub mod Names
 pub mod Words
 pub mod Cuts

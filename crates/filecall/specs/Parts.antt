@@ -4,7 +4,7 @@ use mathlib.Core.Path.{_≡_}
 use mathlib.Core.Bool.{Bool, true, false, cond}
 use mathlib.Core.List.{List, [], _∷_}
 use mathlib.Core.Option.{Option, none, some}
-use Prim.Native.Nat.{ℕ, zero, suc, _+_, _*_, _-_, _≤_, _<_, min}
+use Prim.Native.Nat.{ℕ, zero, suc, _*_, _-_, _≤_, _<_, min}
 use lib.ListN.{length, take, drop, getD}
 use Rattle.csv.specs.Fields.{rawFields, fieldValue, fieldValues}
 use Rattle.planning.specs.Numbers.{within}

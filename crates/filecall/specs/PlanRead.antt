@@ -10,7 +10,7 @@ use Rattle.planning.specs.declared.Mode.{Mode}
 use Rattle.planning.specs.Bounds.{mostEngines, mostDeliveries}
 use Rattle.planfile.specs.FilePlan.{FilePlan}
 use Rattle.planfile.specs.Laws.Records.{engineOf, deliveryOf}
-use Rattle.planfile.specs.Reading.{Read, refused, accepted, _>>=_, fault, require, fieldsOf, readRecord}
+use Rattle.planfile.specs.Reading.{Read, refused, accepted, fault, require, fieldsOf, readRecord, _>>=_}
 use Rattle.filecall.specs.declared.reading.Added.{Added}
 use Rattle.filecall.specs.declared.reading.Added.the-variants as added
 use Rattle.filecall.specs.declared.reading.Plan.{Plan}

@@ -7,14 +7,13 @@ use mathlib.Core.List.{List}
 use lib.ListN.{length}
 use lib.Dec.{leb, eqb}
 use Rattle.planning.specs.declared.Fault.the-variants.{Space}
-use Rattle.planning.specs.declared.Refusal.{Refusal}
 use Rattle.planning.specs.Bounds.{mostCells, mostEngines}
-use Rattle.planning.specs.Modes.{Planned, planned, answerOf, tableAfter, sparesAfter, overFront}
+use Rattle.planning.specs.Modes.{planned, answerOf, tableAfter, sparesAfter, overFront}
 use Rattle.planfile.specs.declared.FileAnswer.{FileAnswer}
 use Rattle.planfile.specs.declared.FileAnswer.the-variants.{Printed, Refused}
 use Rattle.planfile.specs.FilePlan.{FilePlan, unnamed}
 use Rattle.planfile.specs.Print.{printOf, refusalPrint}
-use Rattle.planfile.specs.Reading.{Read, refused, accepted, _>>=_, require, readFile}
+use Rattle.planfile.specs.Reading.{Read, refused, accepted, require, readFile, _>>=_}
 
 -- "A call with a file is lent exactly 768 and 12 numbers", and an output
 pub record FileCall : Type 0 where

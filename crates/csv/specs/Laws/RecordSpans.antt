@@ -1,13 +1,13 @@
 -- The records of a file one after the other, by the places at which they begin and end. Assumes nothing.
-use mathlib.Core.Path.{_≡_, refl, ap, _∙_}
+use mathlib.Core.Path.{_≡_, refl, ap}
 use mathlib.Core.Bool.{Bool, true, false, cond, _&&_}
-use mathlib.Core.List.{List, [], _∷_, _++_, append-nil}
+use mathlib.Core.List.{List, [], _∷_, _++_}
 use mathlib.Core.Option.{Option, none, some, Option·none-ne-some, Option·some-inj}
 use Prim.Native.Nat.{ℕ, zero, suc, _+_, _-_, _<_, _≤_}
 use native.Mathlib.Omega.{arith}
 use lib.Dec.{eqb}
 use lib.ListN.{length, take, drop, length-append, length-drop, drop-of-length-le}
-use lib.Seq.{take-at, drop-at, drop-drop, drop-append-add, take-length}
+use lib.Seq.{take-at, drop-drop, drop-append-add}
 use borrow.Author.Tests.{eqb-true}
 use Rattle.csv.specs.declared.RecordSpan.{RecordSpan}
 use Rattle.csv.specs.Bytes.{carriageReturn, lineFeed}

@@ -1,6 +1,6 @@
 -- `export::fothwen_allocate` meets its contract: what `allocate` ensures, with the result in one number.
 -- Assumes nothing.
-use mathlib.Core.Path.{_≡_, sym, ap, _∙_}
+use mathlib.Core.Path.{sym, ap, _∙_}
 use borrow.Author.Needs.{needs}
 use Rattle.export.specs.Laws.{word-small}
 use Rattle.export.specs.Packed.{packedOf}

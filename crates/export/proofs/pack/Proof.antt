@@ -1,6 +1,5 @@
 -- `export::pack` meets its contract: by the tests for room.
 -- Assumes nothing.
-use mathlib.Core.Bool.{and-false}
 use borrow.Author.Needs.{needs}
 use borrow.Author.Tests.{lt-ltb, le-ltb}
 use Rattle.export.specs.Packed.{packed}

@@ -1,15 +1,11 @@
 -- `plan_file` meets its contract: by what the file is read as, and by the lengths of what is lent. That the clauses follow from the definitions
 -- is in planfile's Laws/Promises. Assumes nothing.
-use mathlib.Core.Path.{_≡_, refl, sym, ap, _∙_}
 use mathlib.Core.Logic.{⊎-elim}
-use Prim.Native.Nat.{ℕ}
-use native.Mathlib.Omega.{arith}
 use borrow.Author.Needs.{needs}
 use borrow.Author.Tests.{eqb-true, eqb-false}
 use Rattle.planfile.specs.FileCall.{FileCall}
-use Rattle.planfile.specs.Reading.{accepted, fault, readFile}
+use Rattle.planfile.specs.Reading.{fault}
 use Rattle.filecall.specs.Calls.{callWith}
-use Rattle.filecall.specs.HandOver.{planBy, withSpace}
 use Rattle.filecall.specs.Laws.FileCall.{read-refused, read-accepted, read-usable, promised, promised-refusal, file-refused, table-refused, spare-refused, call-space}
 use Rattle.filecall.specs.Laws.Parts.{not-true, not-false}
 use Rattle.filecall.proofs.plan_file.Statement.{statement}

@@ -1,5 +1,5 @@
 -- `print_file` meets its contract: by the answer of the call. That the print is the program's is in planfile's Laws/Program. Assumes nothing.
-use mathlib.Core.Path.{_≡_, sym, ap, _∙_}
+use mathlib.Core.Path.{_≡_}
 use mathlib.Core.List.{List}
 use Prim.Native.Nat.{ℕ}
 use borrow.Author.Needs.{needs}

@@ -1,10 +1,9 @@
 -- A whole file: its size, record 1, then the others. Assumes nothing.
 use mathlib.Core.Path.{_≡_, refl, ap, _∙_}
-use mathlib.Core.Logic.{_⊎_, inl, inr}
 use mathlib.Core.List.{List}
 use Prim.Native.Nat.{ℕ, _≤_, _<_}
 use native.Mathlib.Omega.{arith}
-use lib.ListN.{length, take, drop}
+use lib.ListN.{length, drop}
 use Rattle.csv.specs.declared.RecordSpan.{RecordSpan}
 use Rattle.csv.specs.Records.{firstRecord, further, furtherRecords, records}
 use Rattle.csv.specs.Laws.RecordSpans.{Stands, record-stands}

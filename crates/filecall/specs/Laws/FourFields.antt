@@ -1,12 +1,12 @@
 -- What a record's text that was cut into its fields is read as: a fault, or four fields by their values. Assumes nothing.
-use mathlib.Core.Path.{_≡_, refl, sym, ap, _∙_}
+use mathlib.Core.Path.{_≡_, refl, ap, _∙_}
 use mathlib.Core.Bool.{true, false, not}
 use mathlib.Core.List.{List, [], _∷_}
-use mathlib.Core.Option.{Option, none, some}
-use Prim.Native.Nat.{ℕ, zero, suc}
+use mathlib.Core.Option.{some}
+use Prim.Native.Nat.{ℕ, suc}
 use native.Mathlib.Omega.{arith}
 use lib.ListN.{length, getD}
-use Rattle.csv.specs.Fields.{rawFields, fieldValue, readAll, andThen, fieldValues}
+use Rattle.csv.specs.Fields.{rawFields, fieldValue, readAll, fieldValues}
 use Rattle.csv.specs.Laws.Records.{and-then}
 use Rattle.planning.specs.declared.Fault.the-variants.{Grammar}
 use Rattle.planning.specs.declared.Fault.the-variants as what

@@ -2,8 +2,7 @@
 use mathlib.Core.Path.{_≡_, refl, sym, ap, ap₂, _∙_, subst}
 use mathlib.Core.Bool.{Bool, true, false, cond}
 use mathlib.Core.List.{List, [], _∷_, _++_, map, zipWith, append-nil}
-use mathlib.Core.Option.{none as unrefused}
-use Prim.Native.Nat.{ℕ, zero, suc, _*_, _≤_, _<_}
+use Prim.Native.Nat.{ℕ, zero, suc, _*_, _≤_}
 use native.Mathlib.Nat.{mul-le-mul}
 use native.Mathlib.Omega.{arith}
 use lib.Dec.{leb}
@@ -19,7 +18,7 @@ use Rattle.planning.specs.declared.Outcome.the-variants.{Found, None, Stopped}
 use Rattle.planning.specs.Laws.Modes.{planned-searched}
 use Rattle.planning.specs.Laws.Numbers.{unrefused-iff}
 use Rattle.planning.specs.Laws.Soundness.{plan-length}
-use Rattle.planning.specs.Modes.{Planned, planned, answerOf, outcomeOf, overFront, listed, spares, tableBy, sparesBy, tableAfter, sparesAfter}
+use Rattle.planning.specs.Modes.{planned, answerOf, outcomeOf, overFront, listed, spares, tableBy, sparesBy, tableAfter, sparesAfter}
 use Rattle.planning.specs.Numbers.{Call, Accepted, planOf, enginesOf, deliveriesOf, answeredBy, allocation, unlessRefused, tableOnExit, spareOnExit}
 use Rattle.planning.specs.Plan.{Plan, All, InRange}
 use Rattle.planning.specs.Search.{Result, found, none, stopped, at}
@@ -33,16 +32,16 @@ use Rattle.planfile.specs.Laws.Listed.{all-each}
 use Rattle.planfile.specs.Laws.Print.{bytes-writable}
 use Rattle.planfile.specs.Laws.PrintLength.{print-length}
 use Rattle.planfile.specs.Laws.Records.{engineOf, deliveryOf}
-use Rattle.planfile.specs.Reading.{Read, refused, accepted, _>>=_, fault, require}
-use Rattle.filecall.specs.declared.reading.Plan.{Plan as ByValue}
+use Rattle.planfile.specs.Reading.{accepted, _>>=_, fault, require}
 use Rattle.filecall.specs.HandOver.{answerIf, numbersIf, bytesIf, planBy, UsablePlan, withSpace}
 use Rattle.filecall.specs.Items.{Columns, itemsIn, Holding}
-use Rattle.filecall.specs.Laws.Names.{length-tabulated}
-use Rattle.filecall.specs.Laws.PlanRead.{tabulated-same, map-tabulated, item-names}
+use Rattle.filecall.specs.Laws.PlanRead.{item-names}
+use Rattle.filecall.specs.Laws.Tabulated.{length-tabulated, tabulated-same, map-tabulated}
 use Rattle.filecall.specs.Parts.{tabulated, nameList}
 use Rattle.filecall.specs.Laws.Printing.{print-by-names}
 use Rattle.filecall.specs.PlanRead.{planIn, engineColumns, deliveryColumns}
 use Rattle.filecall.specs.Printing.{Names, printBytes}
+use Rattle.filecall.specs.declared.reading.Plan.{Plan as ByValue}
 
 -- ---- the numbers of a plan
 

@@ -1,13 +1,12 @@
 -- An item of a record, one check after the other, and the columns with one item more. Assumes nothing.
-use mathlib.Core.Path.{_≡_, refl, sym, ap, _∙_}
+use mathlib.Core.Path.{_≡_, sym, ap, _∙_}
 use mathlib.Core.Logic.{_⊎_, inl, inr}
 use mathlib.Core.Bool.{Bool, true, false, _&&_, not}
-use mathlib.Core.List.{List, [], _∷_, _++_, map, map-id}
+use mathlib.Core.List.{List, _++_, map-id}
 use mathlib.Core.Option.{some}
-use Prim.Native.Nat.{ℕ, zero, suc, _+_, _*_, _≤_, _<_}
+use Prim.Native.Nat.{ℕ, _+_, _*_, _≤_, _<_}
 use native.Mathlib.Omega.{arith}
-use lib.Dec.{ltb}
-use lib.ListN.{length, take, drop, getD, set, length-append, length-drop, length-set, take-append-drop}
+use lib.ListN.{length, take, drop, set, length-append, length-drop, length-set, take-append-drop}
 use lib.Seq.{length-take-le, drop-append-le, take-append-le, drop-at, getD-set-same, getD-set-other}
 use borrow.Author.Tests.{lt-ltb, le-ltb}
 use Rattle.csv.specs.Fields.{fieldValue}
@@ -16,13 +15,12 @@ use Rattle.planning.specs.Laws.Finite.Decisions.{le-or-lt}
 use Rattle.planning.specs.Search.{at}
 use Rattle.planfile.specs.FilePlan.{FilePlan}
 use Rattle.planfile.specs.Laws.Listed.{readItem}
-use Rattle.planfile.specs.Reading.{Read, accepted, _>>=_, fault, require, FourFields, readNumber, soundName, unused}
+use Rattle.planfile.specs.Reading.{Read, accepted, _>>=_, fault, require, FourFields, soundName, unused}
 use Rattle.filecall.specs.declared.names.Name.{Name as NameField}
 use Rattle.filecall.specs.declared.numeral.Ranged.the-variants as ranged
-use Rattle.filecall.specs.Items.{Columns, nameIn, itemsIn, Holding, Appended, readNamed}
-use Rattle.filecall.specs.Laws.Names.{length-tabulated}
+use Rattle.filecall.specs.Items.{Columns, nameIn, Holding, Appended, readNamed}
 use Rattle.filecall.specs.Laws.Parts.{byRanged, read-by-ranged, not-true, not-false}
-use Rattle.filecall.specs.Parts.{rangedOf, NamedBy, IsNameOf, tabulated, nameList}
+use Rattle.filecall.specs.Parts.{rangedOf, NamedBy, IsNameOf}
 
 -- ---- the checks
 
@@ -56,11 +54,6 @@ module _ (most low high low′ high′ : ℕ) (names : List (List ℕ)) (r : ℕ
         item-read b e =
             rw
             (lt-ltb (length names) most room, map-id names, named, read-by-ranged low high r (x .third), third, read-by-ranged low′ high′ r (x .fourth), e)
-
--- so many names as items
-pub name-count : (n : ℕ) (c : Columns) → length (nameList n (c .names) (c .sizes)) ≡ n
-unfolding nameList
-name-count n c = length-tabulated n _
 
 -- a field's name is not sound, is used, or is neither
 module _ {raw value : List ℕ} {name : NameField} (is : IsNameOf raw name) (reads : fieldValue raw ≡ some value) where

@@ -3,7 +3,7 @@
 use mathlib.Core.Path.{_≡_, refl, sym, ap, _∙_}
 use mathlib.Core.Logic.{_⊎_, inl, inr}
 use mathlib.Core.Option.{Option, none, some}
-use Prim.Native.Nat.{ℕ, zero, suc, _+_, _*_, _≤_, _<_}
+use Prim.Native.Nat.{ℕ, suc, _+_, _*_, _≤_, _<_}
 use native.Mathlib.Numerals.{add-one}
 use native.Mathlib.Omega.{arith}
 use mathlib.Core.Bool.{Bool, true, false, cond, false≢true, and-false}
@@ -19,9 +19,10 @@ use Rattle.planning.specs.Laws.Finite.Decisions.{le-or-lt}
 use Rattle.planning.specs.Search.{at}
 use Rattle.filecall.specs.declared.names.Name.{Name}
 use Rattle.planfile.specs.Bounds.{mostNameBytes, leastNameByte, mostNameByte}
-use Rattle.filecall.specs.Parts.{NamedBy, tabulated, nameList}
+use Rattle.filecall.specs.Parts.{NamedBy, nameList}
 use Rattle.planfile.specs.Laws.Tests.{same-iff}
 use Rattle.planfile.specs.Reading.{same, nameBytes, soundName, unused}
+use Rattle.filecall.specs.Laws.Tabulated.{length-tabulated, tabulated-at}
 use Rattle.filecall.specs.Laws.Parts.{within-below, within-above, within-both}
 
 -- ---- two texts
@@ -91,18 +92,6 @@ module _ (name : List ℕ) (names : List (List ℕ)) (k : ℕ) where
   pub used-here : k < length names → same name (getD names k []) ≡ true → unused name (drop k names) ≡ false
   unfolding unused
   used-here l e = rw (drop-cons names k [] l, unused, e)
-
--- the list f 0, .., f (n - 1) has n items, and f k at place k
-pub length-tabulated : {A : Type 0} (n : ℕ) (f : ℕ → A) → length (tabulated n f) ≡ n
-unfolding tabulated
-length-tabulated zero f = refl
-length-tabulated (suc n) f = ap suc (length-tabulated n (λ k. f (suc k)))
-
-pub tabulated-at : {A : Type 0} (n k : ℕ) (f : ℕ → A) (other : A) → k < n → getD (tabulated n f) k other ≡ f k
-unfolding tabulated
-tabulated-at zero k f other l = absurd (omega arith)
-tabulated-at (suc n) zero f other l = refl
-tabulated-at (suc n) (suc k) f other l = tabulated-at n k (λ j. f (suc j)) other (omega arith)
 
 -- n names have n places, and the name at place k counts as many bytes as its size says
 module _ (n : ℕ) (names sizes : List ℕ) where

@@ -1,6 +1,6 @@
 -- Record 1, one check after the other. Assumes nothing.
-use mathlib.Core.Path.{_≡_, refl, ap, _∙_}
-use mathlib.Core.Bool.{Bool, true, false}
+use mathlib.Core.Path.{_≡_, _∙_}
+use mathlib.Core.Bool.{true, false}
 use mathlib.Core.List.{List}
 use Prim.Native.Nat.{ℕ}
 use Rattle.csv.specs.Text.{ascii}
@@ -9,12 +9,9 @@ use Rattle.planning.specs.declared.Fault.the-variants.{Kind, Value}
 use Rattle.planning.specs.declared.Mode.{Mode}
 use Rattle.planning.specs.declared.Mode.the-variants.{Fixed, Shortest}
 use Rattle.planning.specs.Bounds.{mostMinutes, mostTries}
-use Rattle.planfile.specs.FilePlan.{FilePlan}
 use Rattle.planfile.specs.Laws.Reading.{begun}
-use Rattle.planfile.specs.Reading.{Read, refused, accepted, _>>=_, fault, require, same, FourFields, fieldsOf, modeBy, readMode, readNumber, readPlan}
-use Rattle.filecall.specs.declared.numeral.Ranged.{Ranged}
+use Rattle.planfile.specs.Reading.{accepted, _>>=_, fault, require, same, FourFields, fieldsOf, modeBy, readMode, readPlan}
 use Rattle.filecall.specs.declared.numeral.Ranged.the-variants as ranged
-use Rattle.filecall.specs.declared.opening.ModeField.{ModeField}
 use Rattle.filecall.specs.declared.opening.ModeField.the-variants as field
 use Rattle.filecall.specs.Laws.FourFields.{Valued}
 use Rattle.filecall.specs.Laws.Parts.{byRanged, read-by-ranged}

@@ -11,7 +11,6 @@ use mathlib.Core.Option.{Option, none, some}
 use lib.ListN.{length, getD}
 use lib.Dec.{leb}
 use borrow.Author.Tests.{lt-leb, le-leb}
-use Rattle.planning.specs.declared.Fault.the-variants.{Value as ValueFault}
 use Rattle.planning.specs.Laws.Finite.Decisions.{le-or-lt}
 use Rattle.planning.specs.Numbers.{within}
 use Rattle.filecall.specs.declared.numeral.Ranged.{Ranged}
@@ -19,6 +18,7 @@ use Rattle.filecall.specs.declared.numeral.Ranged.the-variants.{Value, F
 use Rattle.planfile.specs.Numerals.{digitZero, digitNine, valueBehind, allDigits, numberOf}
 use Rattle.filecall.specs.Parts.{rangedBy, rangedOf, cappedBy, cappedValue}
 use Rattle.planfile.specs.Reading.{Read, accepted, _>>=_, fault, require, numberBy, readNumber}
+use Rattle.planning.specs.declared.Fault.the-variants.{Value as ValueFault}
 
 -- ---- tests
 

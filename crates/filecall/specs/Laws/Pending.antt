@@ -1,10 +1,8 @@
 -- What is left to be read of a file behind the records that are read, at each turn of the loop over them. Assumes nothing.
-use mathlib.Core.Path.{_≡_, refl, sym, ap, _∙_}
-use mathlib.Core.Bool.{true, false}
+use mathlib.Core.Path.{_≡_, refl, ap, _∙_}
 use mathlib.Core.List.{List, [], _∷_}
 use Prim.Native.Nat.{ℕ, zero, suc, _+_, _*_, _-_, _≤_, _<_}
 use native.Mathlib.Omega.{arith}
-use lib.Dec.{leb}
 use lib.ListN.{length, take, drop, drop-of-length-le}
 use borrow.Author.Tests.{le-leb, lt-leb}
 use Rattle.csv.specs.declared.RecordSpan.{RecordSpan}
@@ -15,17 +13,14 @@ use Rattle.planning.specs.declared.Fault.{Fault}
 use Rattle.planning.specs.declared.Fault.the-variants.{NoEngine}
 use Rattle.planning.specs.declared.Mode.{Mode}
 use Rattle.planning.specs.Bounds.{mostEngines, mostDeliveries}
-use Rattle.planning.specs.Search.{at}
 use Rattle.planfile.specs.FilePlan.{FilePlan}
 use Rattle.planfile.specs.Laws.Reading.{begun}
-use Rattle.planfile.specs.Reading.{Read, refused, accepted, _>>=_, fault, require, readRecords}
-use Rattle.filecall.specs.declared.reading.Added.the-variants as added
-use Rattle.filecall.specs.declared.reading.Reading.{Reading}
+use Rattle.planfile.specs.Reading.{Read, accepted, _>>=_, fault, require, readRecords}
 use Rattle.filecall.specs.Items.{Columns, Holding, itemsIn}
-use Rattle.filecall.specs.Laws.Names.{length-tabulated}
+use Rattle.filecall.specs.Laws.Tabulated.{length-tabulated}
 use Rattle.filecall.specs.Laws.PlanRead.{records-refused, records-added}
 use Rattle.filecall.specs.Parts.{tabulated}
-use Rattle.filecall.specs.PlanRead.{planIn, readText, AddsRecord, ReadBy, withEngine}
+use Rattle.filecall.specs.PlanRead.{planIn, readText, withEngine}
 
 -- what the records from a place on are read as: those from the start are read as those from here, behind the columns so far
 pub record Pending (file : List ℕ) (start : ℕ) (mode : Mode) (minutes allowance engines deliveries : ℕ) (e d : Columns) (from place : ℕ) : Type 0 where

@@ -1,43 +1,27 @@
 -- The records of a file one after the other: what each adds to the columns, and what is left to be read. Assumes nothing.
 use mathlib.Core.Path.{_≡_, refl, sym, ap, ap₂, _∙_}
-use mathlib.Core.Bool.{Bool, true, false}
+use mathlib.Core.Bool.{true, false}
 use mathlib.Core.List.{List, [], _∷_, _++_, map, map-id}
-use Prim.Native.Nat.{ℕ, zero, suc, _+_, _≤_, _<_}
+use Prim.Native.Nat.{ℕ, _+_}
 use native.Mathlib.Numerals.{add-one}
-use native.Mathlib.Omega.{arith}
-use lib.ListN.{length, length-map}
+use lib.ListN.{length-map}
 use Rattle.csv.specs.Text.{ascii}
 use Rattle.planning.specs.declared.Fault.{Fault}
 use Rattle.planning.specs.declared.Fault.the-variants.{Kind}
-use Rattle.planning.specs.declared.Mode.{Mode}
 use Rattle.planning.specs.Bounds.{mostEngines, mostDeliveries, mostWatts, mostFuel, mostEnergy, mostLimit}
 use Rattle.planfile.specs.FilePlan.{FilePlan, NamedEngine, NamedDelivery}
 use Rattle.planfile.specs.Laws.Listed.{readItem}
 use Rattle.planfile.specs.Laws.Records.{engineOf, deliveryOf}
-use Rattle.planfile.specs.Reading.{Read, refused, accepted, _>>=_, fault, require, same, FourFields, fieldsOf, soundName, unused, readNumber, readEngine, readDelivery, recordBy, readRecord, readRecords}
+use Rattle.planfile.specs.Reading.{Read, refused, accepted, _>>=_, fault, same, FourFields, fieldsOf, readEngine, readDelivery, recordBy, readRecord, readRecords}
 use Rattle.filecall.specs.declared.items.Verdict.the-variants as verdict
 use Rattle.filecall.specs.declared.reading.Added.the-variants as added
 use Rattle.filecall.specs.Items.{Columns, nameIn, itemsIn, Holding, Appended, readNamed, Adds}
 use Rattle.filecall.specs.Laws.FourFields.{Valued}
-use Rattle.filecall.specs.Parts.{tabulated, nameList}
-use Rattle.filecall.specs.PlanRead.{planIn, readText, AddsRecord}
+use Rattle.filecall.specs.Laws.Tabulated.{tabulated-same, tabulated-last, map-tabulated}
+use Rattle.filecall.specs.Parts.{nameList}
+use Rattle.filecall.specs.PlanRead.{readText, AddsRecord}
 
 -- ---- items in columns
-
-pub tabulated-same : {A : Type 0} (n : ℕ) (f g : ℕ → A) → ((k : ℕ) → k < n → f k ≡ g k) → tabulated n f ≡ tabulated n g
-unfolding tabulated
-tabulated-same zero f g e = refl
-tabulated-same (suc n) f g e = ap₂ _∷_ (e 0 (omega arith)) (tabulated-same n (λ k. f (suc k)) (λ k. g (suc k)) (λ k l. e (suc k) (omega arith)))
-
-tabulated-last : {A : Type 0} (n : ℕ) (f : ℕ → A) → tabulated (suc n) f ≡ tabulated n f ++ f n ∷ []
-unfolding tabulated
-tabulated-last zero f = refl
-tabulated-last (suc n) f = ap (λ (items : List _). f 0 ∷ items) (tabulated-last n (λ k. f (suc k)))
-
-pub map-tabulated : {A B : Type 0} (h : A → B) (n : ℕ) (f : ℕ → A) → map h (tabulated n f) ≡ tabulated n (λ k. h (f k))
-unfolding tabulated
-map-tabulated h zero f = refl
-map-tabulated h (suc n) f = ap (λ (items : List _). h (f 0) ∷ items) (map-tabulated h n (λ k. f (suc k)))
 
 module _ {A : Type 0} (make : List ℕ → ℕ → ℕ → A) where
   -- one item more

@@ -1,7 +1,7 @@
 -- The line of a refusal, and the print of a call with it. Assumes nothing.
-use mathlib.Core.Path.{_≡_, refl, sym, ap, ap₂, _∙_}
-use mathlib.Core.Bool.{Bool, true, false, cond}
-use mathlib.Core.List.{List, [], _∷_, _++_, append-nil}
+use mathlib.Core.Path.{_≡_, refl, ap, _∙_}
+use mathlib.Core.Bool.{true, false}
+use mathlib.Core.List.{List, [], _∷_, append-nil}
 use Prim.Native.Nat.{ℕ, _+_, _≤_, _<_}
 use native.Mathlib.Omega.{arith}
 use lib.Dec.{leb}
@@ -9,7 +9,7 @@ use lib.ListN.{length}
 use borrow.Author.Tests.{le-leb, lt-leb}
 use Rattle.csv.specs.Laws.Writer.{length-written}
 use Rattle.csv.specs.Text.{ascii}
-use Rattle.csv.specs.Writer.{written, writtenLine, writtenFile, writable}
+use Rattle.csv.specs.Writer.{written, writtenLine, writtenFile}
 use Rattle.planning.specs.declared.Answer.{Answer}
 use Rattle.planning.specs.declared.Fault.{Fault}
 use Rattle.planning.specs.declared.Fault.the-variants.{Size, Grammar, Fields, Kind, Name, Value, Count, NoEngine, Space}

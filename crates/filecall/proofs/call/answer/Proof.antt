@@ -1,10 +1,8 @@
 -- `filecall::call::answer` meets its contract: tables for the largest plan have room for this one. Assumes nothing.
-use mathlib.Core.Path.{_≡_, sym}
-use Prim.Native.Nat.{ℕ, _*_, _≤_}
+use mathlib.Core.Path.{sym}
 use native.Mathlib.Omega.{arith}
 use lib.Seq.{length-take-le}
 use borrow.Author.Needs.{needs}
-use Rattle.filecall.specs.HandOver.{UsablePlan}
 use Rattle.filecall.specs.Laws.HandOver.{cells-fit}
 use Rattle.filecall.proofs.call.answer.Statement.{statement}
 use Rattle.filecall.proofs.call.answer.Tie as tie

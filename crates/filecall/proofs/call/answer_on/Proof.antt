@@ -1,12 +1,10 @@
 -- `filecall::call::answer_on` meets its contract: what was planned on other tables is handed over. Assumes nothing.
-use mathlib.Core.Path.{_≡_, refl, sym, ap, _∙_}
-use mathlib.Core.List.{List}
-use Prim.Native.Nat.{ℕ, _*_, _≤_}
+use mathlib.Core.Path.{_≡_, sym, ap, _∙_}
+use Prim.Native.Nat.{_*_}
 use native.Mathlib.Omega.{arith}
 use lib.ListN.{length}
 use borrow.Author.Needs.{needs}
 use Rattle.planfile.specs.FileCall.{printed}
-use Rattle.planfile.specs.FilePlan.{unnamed}
 use Rattle.filecall.specs.HandOver.{planBy}
 use Rattle.filecall.specs.Laws.HandOver.{cells-fit, engine-names, delivery-names, plan-counts, print-is, table-length, spare-length, held-short, handed-answer, handed-table, handed-spare, handed-output}
 use Rattle.filecall.specs.Parts.{nameList}

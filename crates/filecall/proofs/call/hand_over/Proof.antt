@@ -1,9 +1,9 @@
 -- `filecall::call::hand_over` meets its contract: by whether the print fits, and with found or without. Assumes nothing.
-use mathlib.Core.Path.{_≡_, refl, sym, ap, _∙_}
+use mathlib.Core.Path.{_≡_, sym, ap, _∙_}
 use mathlib.Core.Logic.{⊎-elim}
 use mathlib.Core.Bool.{true, false}
 use mathlib.Core.List.{List, [], _∷_}
-use Prim.Native.Nat.{ℕ, _≤_}
+use Prim.Native.Nat.{ℕ}
 use native.Mathlib.Omega.{arith}
 use types.Run.{miss}
 use lib.Dec.{leb}
@@ -11,7 +11,6 @@ use lib.ListN.{length, take, drop}
 use lib.Seq.{take-append-seam}
 use borrow.Author.Needs.{needs}
 use borrow.Author.Tests.{le-leb, lt-leb}
-use Rattle.planning.specs.declared.Outcome.the-variants.{Found}
 use Rattle.planning.specs.Modes.{overFront}
 use Rattle.filecall.specs.HandOver.{numbersIf}
 use Rattle.filecall.specs.Laws.HandOver.{numbers-length, found-numbers, kept-numbers, not-handed, handed}

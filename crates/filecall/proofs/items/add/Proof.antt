@@ -1,16 +1,17 @@
 -- `filecall::items::add` meets its contract: check after check. Assumes nothing.
-use mathlib.Core.Path.{_≡_, refl, sym, ap, _∙_}
-use mathlib.Core.Bool.{Bool, true, false, _&&_}
+use mathlib.Core.Path.{_≡_, sym, _∙_}
+use mathlib.Core.Bool.{true, _&&_}
 use mathlib.Core.List.{List}
 use mathlib.Core.Option.{some}
-use Prim.Native.Nat.{ℕ, _≤_, _<_}
+use Prim.Native.Nat.{ℕ, _<_}
 use native.Mathlib.Omega.{arith}
 use lib.ListN.{length}
 use borrow.Author.Needs.{needs}
 use Rattle.csv.specs.Fields.{fieldValue}
 use Rattle.planfile.specs.Reading.{FourFields, soundName, unused}
-use Rattle.filecall.specs.Items.{Columns, Holding, Adds}
-use Rattle.filecall.specs.Laws.Items.{item-full, item-name, item-first, item-second, item-read, name-count, name-unsound, name-value, name-sound, appended, holding}
+use Rattle.filecall.specs.Items.{Columns, Adds}
+use Rattle.filecall.specs.Laws.Items.{item-full, item-name, item-first, item-second, item-read, name-unsound, name-value, name-sound, appended, holding}
+use Rattle.filecall.specs.Laws.Names.{names-count}
 use Rattle.filecall.specs.Laws.Parts.{not-true, not-false}
 use Rattle.filecall.specs.Parts.{nameList}
 use Rattle.filecall.proofs.items.add.Statement.{statement}
@@ -27,7 +28,7 @@ names-in start = nameList (start .args .n) (start .args .names .now) (start .arg
 room : (c : tie.Else1) → length (names-in (c .before .before .before .before .before .before .before .before)) < c .before .before .before .before .before .before .before .before .args .most
 room c =
     let start = c .before .before .before .before .before .before .before .before in
-    omega (arith, name-count (start .args .n) (columns start), start .pre .0 .room, c .if1 .left)
+    omega (arith, names-count (start .args .n) (start .args .names .now) (start .args .sizes .now), start .pre .0 .room, c .if1 .left)
 
 -- its name is sound and unused
 named : (c : tie.Else3) (x : FourFields) → let start = c .before .before .before .before .before .before .before .before .before .before .before .before .before .before .before .before .before in fieldValue (start .args .second .now) ≡ some (x .second)
@@ -39,7 +40,7 @@ returns : tie.Need-returns
 unfolding Adds
 returns c x p q t r next =
     let start = c .before .before .before .before .before .before .before .before in
-    item-full _ _ _ _ _ (names-in start) r x next (omega (arith, name-count (start .args .n) (columns start), c .if1 .taken))
+    item-full _ _ _ _ _ (names-in start) r x next (omega (arith, names-count (start .args .n) (start .args .names .now) (start .args .sizes .now), c .if1 .taken))
 
 name-of-requires : tie.Need-name-of-requires
 name-of-requires c κs = search needs

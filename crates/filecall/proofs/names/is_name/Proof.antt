@@ -1,5 +1,5 @@
 -- `filecall::names::is_name` meets its contract. The loop's invariant: the names are the same from byte `i` on. The measure is `i`. Assumes nothing.
-use mathlib.Core.Path.{_≡_, refl, sym, ap₂, _∙_}
+use mathlib.Core.Path.{_≡_, sym, ap₂, _∙_}
 use mathlib.Core.List.{List, _∷_}
 use Prim.Native.Nat.{ℕ, suc, _+_, _*_, _-_, _≤_, _<_}
 use native.Mathlib.Omega.{arith}
@@ -7,7 +7,6 @@ use lib.ListN.{length, take, drop, getD, length-drop, drop-of-length-le}
 use lib.Seq.{length-take-le, getD-take, getD-drop, drop-cons}
 use Rattle.planning.specs.Search.{at}
 use Rattle.planfile.specs.Laws.Tests.{same-iff}
-use Rattle.planfile.specs.Reading.{same}
 use Rattle.filecall.specs.Laws.Names.{same-lengths, same-unlike}
 use Rattle.filecall.proofs.names.is_name.Statement.{statement}
 use Rattle.filecall.proofs.names.is_name.Tie as tie

@@ -1,12 +1,8 @@
 -- `filecall::opening::read` meets its contract: check after check. Assumes nothing.
 use mathlib.Core.Path.{_≡_, refl, sym, ap, _∙_}
-use mathlib.Core.Bool.{Bool, true}
-use mathlib.Core.List.{List, []}
-use mathlib.Core.Option.{some}
-use Prim.Native.Nat.{ℕ}
-use lib.ListN.{getD}
+use mathlib.Core.Bool.{true}
 use borrow.Author.Needs.{needs}
-use Rattle.csv.specs.Fields.{rawFields, fieldValue}
+use Rattle.csv.specs.Fields.{fieldValue}
 use Rattle.csv.specs.Spans.{holdsQuote}
 use Rattle.csv.specs.Text.{ascii}
 use Rattle.planfile.specs.Reading.{same, FourFields, readMode}

@@ -1,7 +1,5 @@
 -- `filecall::print::write_refusal` meets its contract: by whether the line fits. Assumes nothing.
-use mathlib.Core.Path.{_≡_, refl, sym, ap, _∙_}
-use mathlib.Core.List.{List, []}
-use Prim.Native.Nat.{ℕ, _+_}
+use mathlib.Core.Path.{refl, ap, _∙_}
 use native.Mathlib.Nat.{zero-add}
 use native.Mathlib.Omega.{arith}
 use lib.ListN.{length}

@@ -1,10 +1,10 @@
 -- `filecall::reading::read` meets its contract: the size, record 1, then the others. Assumes nothing.
-use mathlib.Core.Path.{_≡_, refl, sym, ap, _∙_}
+use mathlib.Core.Path.{_≡_, sym, ap, _∙_}
 use mathlib.Core.Logic.{⊎-elim}
-use Prim.Native.Nat.{ℕ, _≤_, _-_}
+use Prim.Native.Nat.{_≤_, _-_}
 use native.Mathlib.Nat.{sub-zero}
 use native.Mathlib.Omega.{arith}
-use lib.ListN.{length, take, drop, length-drop}
+use lib.ListN.{length, length-drop}
 use lib.Seq.{length-take-le}
 use borrow.Author.Needs.{needs}
 use borrow.Author.Tests.{ltb-true, ltb-false}
@@ -12,7 +12,6 @@ use Rattle.csv.specs.Laws.RecordSpans.{Stands}
 use Rattle.csv.specs.Records.{firstRecord, further}
 use Rattle.filecall.specs.Laws.FileRead.{file-empty, file-long, first-stands, opening-faulty, opening-begins}
 use Rattle.filecall.specs.Opening.{openingRead, readOpening}
-use Rattle.filecall.specs.PlanRead.{ReadBy}
 use Rattle.filecall.proofs.reading.read.Statement.{statement}
 use Rattle.filecall.proofs.reading.read.Tie as tie
 

@@ -1,14 +1,13 @@
 -- `filecall::reading::read_items` meets its contract. The loop's invariant: the records from the start are read as those from here, behind the
 -- columns so far. The measure is what is left of the file. Assumes nothing.
-use mathlib.Core.Path.{_≡_, refl, sym, ap, _∙_}
+use mathlib.Core.Path.{refl}
 use mathlib.Core.Logic.{⊎-elim}
-use Prim.Native.Nat.{ℕ, _+_, _-_, _≤_}
+use Prim.Native.Nat.{_-_}
 use native.Mathlib.Omega.{arith}
 use lib.ListN.{length, drop}
 use borrow.Author.Needs.{needs}
 use Rattle.csv.specs.Laws.RecordSpans.{Stands}
 use Rattle.csv.specs.Records.{firstRecord, further}
-use Rattle.filecall.specs.Items.{Columns}
 use Rattle.filecall.specs.Laws.Pending.{Pending, empty-columns, pending-start, pending-end, next-stands, pending-refused, pending-added, engine-faulty, engine-missing, engine-present}
 use Rattle.filecall.specs.PlanRead.{AddsRecord, ReadBy}
 use Rattle.filecall.proofs.reading.read_items.Statement.{statement}
