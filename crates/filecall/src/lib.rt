@@ -12,10 +12,11 @@ mod reading;
 use planfile::FileAnswer;
 use planning::Fault;
 use planning::Refusal;
+pub use print::write_refusal;
 use reading::Verdict;
 ghost use mathlib.Core.Path.{_≡_};
-ghost use Rattle.planfile.specs.FileCall.{answerToFile, fileTable, fileSpare, fileOutput, printLength, printOutput};
-ghost use Rattle.planfile.specs.Promises.{AnsweredExactly, RefusedByFile, TurnedDown, FoundServes, KeptUnlessFound, StoppedExactly, NoneExactly, ShortestExactly, PrintReads, ReadsBack, PrintsAsProgram};
+ghost use Rattle.planfile.specs.FileCall.{answerToFile, fileTable, fileSpare, fileOutput};
+ghost use Rattle.planfile.specs.Promises.{AnsweredExactly, RefusedByFile, TurnedDown, FoundServes, KeptUnlessFound, StoppedExactly, NoneExactly, ShortestExactly, PrintReads, ReadsBack};
 ghost use Rattle.filecall.specs.Calls.{callWith};
 
 // Plans the file; lent a piece table of 768 numbers, a spare list of 12, and an output for the print.
@@ -48,21 +49,5 @@ pub fn plan_file(file: &[u8], table: &mut [u64], spare: &mut [u64], output: &mut
             }
             call::answer(reading.plan, table, spare, output)
         }
-    }
-}
-
-// Plans the file and prints the answer, or the refusal where there is space for it. Answers the length of the print, which stands at the
-// front of the output.
-pub fn print_file(file: &[u8], table: &mut [u64], spare: &mut [u64], output: &mut [u8]) -> usize
-    ensures result { λ r. ⌜ r ≡ printLength (callWith (now (file .entry)) (now (table .entry)) (now (spare .entry)) (now (output .entry))) ⌝ }
-    ensures table { λ r. ⌜ now (table .exit) ≡ fileTable (callWith (now (file .entry)) (now (table .entry)) (now (spare .entry)) (now (output .entry))) ⌝ }
-    ensures spare { λ r. ⌜ now (spare .exit) ≡ fileSpare (callWith (now (file .entry)) (now (table .entry)) (now (spare .entry)) (now (output .entry))) ⌝ }
-    ensures output { λ r. ⌜ now (output .exit) ≡ printOutput (callWith (now (file .entry)) (now (table .entry)) (now (spare .entry)) (now (output .entry))) ⌝ }
-    ensures as_program { λ r. ⌜ PrintsAsProgram (callWith (now (file .entry)) (now (table .entry)) (now (spare .entry)) (now (output .entry))) r (now (output .exit)) ⌝ }
-{
-    let answer = plan_file(file, table, spare, &mut *output);
-    match answer {
-        FileAnswer::Printed(_, n) => n,
-        FileAnswer::Refused(refusal) => print::write_refusal(refusal, output),
     }
 }

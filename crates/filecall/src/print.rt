@@ -266,13 +266,14 @@ pub(crate) fn write<'a>(
     }
 }
 
-// The line of a refusal at the front of the output, where it fits; answers its length, or 0.
-pub(crate) fn write_refusal(refusal: Refusal, out: &mut [u8]) -> usize
+// Writes the line that the program prints for a refusal at the front of an output, where it fits; answers its length, or 0.
+pub fn write_refusal(refusal: Refusal, out: &mut [u8]) -> usize
     ensures next { λ r. ⌜ r ≡ printLengthBy (Refused refusal) (length (now (out .entry))) ⌝ }
     ensures output { λ r. ⌜ now (out .exit) ≡ printOutputBy (Refused refusal) (now (out .entry)) ⌝ }
 {
     let fault = refusal.fault;
     let place = refusal.place;
+    // `refused,`, the number's digit, two commas, `0`, CR and LF
     if out.len() < 14 + decimal::length_of(place) {
         return 0;
     }

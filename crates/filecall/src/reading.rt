@@ -50,7 +50,7 @@ pub(crate) enum Added {
     Fault(Fault),
 }
 
-// Adds a record's engine or delivery: 2, 3 and 4, then what the item's fields have to keep.
+// Adds a record's engine or delivery: 2, 3 and 4, then 7 and the item's fields.
 fn add_record(
     text: &[u8],
     engines: usize,

@@ -58,7 +58,8 @@ fileSpare call = onExit (readCall call) (call .spare) (λ f. sparesAfter (unname
 unfoldable pub fileOutput : FileCall → List ℕ
 fileOutput call = onExit (readCall call) (call .output) (λ f. overFront (printed f) (call .output))
 
--- "`refused,NUMBER,RECORD,0`": the call with the refusal printed too, where there is space for it. Its print's length, 0 for none ..
+-- "`refused,NUMBER,RECORD,0`": the call's print, or behind a refusal its line where there is space for it. The print's length, 0 where nothing
+-- is printed ..
 unfoldable pub printLengthBy : FileAnswer → (space : ℕ) → ℕ
 printLengthBy (Printed answer n) space = n
 printLengthBy (Refused refusal) space = cond (leb (length (refusalPrint refusal)) space) (length (refusalPrint refusal)) 0

@@ -1,5 +1,5 @@
 -- What the call with a file promises about cuttings and about the plan that its bytes hold: the clauses of its contract. The reading and
--- its order of checks have no part in them. `table`, `spare` and `output` are what the lent lists hold on exit.
+-- its order of checks have no part in demands 1 to 3. `table`, `spare` and `output` are what the lent lists hold on exit.
 -- Assumes nothing.
 use mathlib.Core.Path.{_≡_}
 use mathlib.Core.Logic.{_≢_, _↔_}

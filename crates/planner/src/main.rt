@@ -1,6 +1,7 @@
 // Plans the file on standard input and prints the answer, or the refusal, on standard output.
 use libc::STDIN_FILENO;
 use libc::STDOUT_FILENO;
+use planfile::FileAnswer;
 ghost use mathlib.Core.Path.{_≡_};
 ghost use Prim.Native.Nat.{_≤_};
 ghost use lib.ListN.{length, take};
@@ -40,8 +41,8 @@ fn read_input(buffer: &mut [u8]) -> Input
     Input::Failed
 }
 
-// Plans a file and answers the length of the print. With these tables and this much output it is document 01's print of the file, and
-// never `refused,9`.
+// Plans a file, prints the answer or the refusal into the output, and answers the length of the print. With these tables and this much
+// output it is document 01's print of the file, and never `refused,9`.
 fn print_of(file: &[u8], output: &mut [u8]) -> usize
     requires { ⌜ length (now output) ≡ 6715 ⌝ }
     ensures print { λ r. ⌜ ProgramPrints (now (file .entry)) (take r (now (output .exit))) ⌝ }
@@ -49,7 +50,11 @@ fn print_of(file: &[u8], output: &mut [u8]) -> usize
 {
     let mut table = [0u64; 768];
     let mut spare = [0u64; 12];
-    filecall::print_file(file, &mut table, &mut spare, output)
+    let answer = filecall::plan_file(file, &mut table, &mut spare, &mut *output);
+    match answer {
+        FileAnswer::Printed(_, n) => n,
+        FileAnswer::Refused(refusal) => filecall::write_refusal(refusal, output),
+    }
 }
 
 // Plans a file and prints.
