@@ -44,10 +44,19 @@ fn longest(beginning: &[u8], byte: u8) -> Vec<u8> {
     file
 }
 
+/// One quoted field to the end of the longest file, closed there.
+fn closed() -> Vec<u8> {
+    let mut file = longest(b"plan,fixed,60,9\r\nengine,\"", b'a');
+    file[FILE_BYTES - 1] = b'"';
+    file
+}
+
 fn cases() -> Vec<Case> {
     vec![
         Case { name: "12 engines, 64 deliveries", file: full() },
         Case { name: "quote open to the end", file: longest(b"plan,fixed,60,9\r\nengine,\"", b'a') },
+        Case { name: "quoted to the end", file: closed() },
+        Case { name: "unquoted to the end", file: longest(b"plan,fixed,60,9\r\nengine,", b'a') },
         Case { name: "a field for every byte", file: longest(b"plan,fixed,60,9", b',') },
         Case { name: "the page's example", file: example() },
     ]

@@ -4,6 +4,7 @@ pub mod Fields
 pub mod Quotes
 pub mod Records
 pub mod Spans
+pub mod Scans
 pub mod RecordSpans
 pub mod Measures
 pub mod Parts

@@ -6,6 +6,7 @@ pub mod Grammar
 pub mod Measures
 pub mod Records
 pub mod Spans
+pub mod Scans
 pub mod Fields
 pub mod Writer
 pub mod Laws

@@ -4,6 +4,9 @@ use crate::FieldForm;
 use crate::FieldSpan;
 use crate::Undone;
 use crate::bytes::class_of;
+use crate::scans::find_on;
+use crate::scans::find_outside;
+use crate::scans::is_plain;
 ghost use mathlib.Core.Path.{_≡_};
 ghost use mathlib.Core.Option.{some};
 ghost use Prim.Native.Nat.{ℕ, _≤_, _<_};
@@ -17,24 +20,10 @@ ghost use Rattle.csv.specs.Spans.{fieldSpan, formOf, insideOf, undone, u
 pub fn field_at(text: &[u8], from: usize) -> FieldSpan
     ensures { λ r. ⌜ r ≡ fieldSpan (now (text .entry)) from ⌝ }
 {
-    let mut at = from;
-    let mut outside = true;
-    while at < text.len() {
-        let b = text[at];
-        if b == 0x22 {
-            outside = !outside;
-        }
-        if outside && b == 0x2C {
-            return FieldSpan {
-                end: at,
-                more: true,
-            };
-        }
-        at += 1;
-    }
+    let end = find_outside(text, from, 0x2C);
     FieldSpan {
-        end: at,
-        more: false,
+        end,
+        more: end < text.len(),
     }
 }
 
@@ -42,18 +31,12 @@ pub fn field_at(text: &[u8], from: usize) -> FieldSpan
 fn all_text(raw: &[u8]) -> bool
     ensures { λ r. ⌜ r ≡ allText (now (raw .entry)) ⌝ }
 {
-    let mut i = 0;
-    while i < raw.len() {
-        let class = class_of(raw[i]);
-        match class {
-            ByteClass::Text => {}
-            _ => {
-                return false;
-            }
-        }
-        i += 1;
+    // Nothing is called for an empty field.
+    if raw.len() == 0 {
+        return true;
     }
-    true
+    let end = find_on(raw, 0, 0x20, 0x7E, 0x2C);
+    raw.len() <= end
 }
 
 // What a raw field comes to: whether it is a field of the grammar, whether a quote is doubled in it, and the length of its value.
@@ -73,23 +56,25 @@ fn measure_quoted(raw: &[u8]) -> Measured
     let mut doubled = false;
     while at < raw.len() {
         let b = raw[at];
-        if b == 0x22 {
-            if raw.len() - at == 1 {
-                return Measured {
-                    sound: true,
-                    doubled,
-                    length,
-                };
-            }
-            if raw[at + 1] != 0x22 {
-                break;
-            }
-            doubled = true;
-            at += 1;
-        } else {
-            let class = class_of(b);
-            if let ByteClass::Refused = class {
-                break;
+        if !is_plain(b, 0x20, 0x7E, 0x22) {
+            if b == 0x22 {
+                if raw.len() - at == 1 {
+                    return Measured {
+                        sound: true,
+                        doubled,
+                        length,
+                    };
+                }
+                if raw[at + 1] != 0x22 {
+                    break;
+                }
+                doubled = true;
+                at += 1;
+            } else {
+                let class = class_of(b);
+                if let ByteClass::Refused = class {
+                    break;
+                }
             }
         }
         length += 1;

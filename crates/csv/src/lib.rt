@@ -3,6 +3,7 @@
 mod bytes;
 mod fields;
 mod records;
+mod scans;
 mod writer;
 
 pub use bytes::class_of;

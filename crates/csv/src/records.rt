@@ -1,5 +1,6 @@
 // Where a record ends: at the first CR LF after an even number of quote bytes.
 use crate::RecordSpan;
+use crate::scans::find_outside;
 ghost use mathlib.Core.Path.{_≡_};
 ghost use Rattle.csv.specs.Spans.{recordSpan};
 
@@ -8,22 +9,20 @@ pub fn record_at(file: &[u8], from: usize) -> RecordSpan
     ensures { λ r. ⌜ r ≡ recordSpan (now (file .entry)) from ⌝ }
 {
     let mut at = from;
-    let mut outside = true;
     while at < file.len() {
-        let b = file[at];
-        if b == 0x22 {
-            outside = !outside;
-        }
-        if outside && b == 0x0D && 1 < file.len() - at {
-            if file[at + 1] == 0x0A {
-                return RecordSpan {
-                    end: at,
-                    next: at + 2,
-                    ended: true,
-                };
+        at = find_outside(file, at, 0x0D);
+        if at < file.len() {
+            if 1 < file.len() - at {
+                if file[at + 1] == 0x0A {
+                    return RecordSpan {
+                        end: at,
+                        next: at + 2,
+                        ended: true,
+                    };
+                }
             }
+            at += 1;
         }
-        at += 1;
     }
     RecordSpan {
         end: at,

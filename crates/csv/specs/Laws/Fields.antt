@@ -120,7 +120,7 @@ escaped-closed (b ∷ []) value e = last-closed b value (eqb b quote) refl e
 escaped-closed (b ∷ c ∷ rest) value e =
     byte-closed b c rest value (escaped-closed (c ∷ rest)) (escaped-closed rest) (classOf b) refl e
 
-is-text : (b : ℕ) (k : ByteClass) → classOf b ≡ k → isText k ≡ true → TextData b
+pub is-text : (b : ℕ) (k : ByteClass) → classOf b ≡ k → isText k ≡ true → TextData b
 unfolding isText
 is-text b Text p e = class-means b p
 is-text b Quote p e = absurd (false≢true e)

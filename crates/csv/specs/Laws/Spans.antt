@@ -2,7 +2,7 @@
 -- Assumes nothing.
 use mathlib.Core.Path.{_≡_, refl, sym, ap, ap₂, _∙_}
 use Prim.Native.Nat.{ℕ, suc, _+_, _-_, _<_, _≤_}
-use mathlib.Core.Bool.{Bool, true, false, cond, not, _&&_, false≢true, true≢false}
+use mathlib.Core.Bool.{Bool, true, false, cond, _&&_, false≢true}
 use mathlib.Core.Option.{Option, none, some}
 use mathlib.Core.List.{List, [], _∷_}
 use native.Mathlib.Numerals.{add-one}
@@ -12,7 +12,7 @@ use lib.ListN.{length, take, drop, getD, drop-of-length-le, length-drop}
 use lib.Seq.{drop-cons, drop-drop, take-length}
 use borrow.Author.Tests.{eqb-true, ne-eqb}
 use Rattle.csv.specs.declared.RecordSpan.{RecordSpan}
-use Rattle.csv.specs.Bytes.{quote, comma, carriageReturn, lineFeed}
+use Rattle.csv.specs.Bytes.{comma, carriageReturn, lineFeed}
 use Rattle.csv.specs.Records.{FirstRecord, outsideAfter, behindEnd, endedOr, firstFrom}
 use Rattle.csv.specs.Fields.{cutOr, rawFieldsFrom, rawFields}
 use Rattle.csv.specs.Spans.{spanFrom, fieldFrom, fieldSpan}
@@ -51,40 +51,19 @@ pub record-unended : (outside : Bool) (file : List ℕ) (at : ℕ) → length fi
 unfolding firstFrom spanFrom
 record-unended outside file at h = let z : at + 0 ≡ at = omega arith in rw (drop-of-length-le file {i = at} h, firstFrom, spanFrom, z)
 
--- no record ends inside quotes
-pub no-end-inside : (outside : Bool) (b : ℕ) (rest : List ℕ) → outsideAfter outside b ≡ false → behindEnd outside (b ∷ rest) ≡ none
-unfolding behindEnd outsideAfter
-no-end-inside outside b [] e = refl
-no-end-inside true b (c ∷ rest) e = go (eqb b quote) refl e
-  where
-    go : (t : Bool) → eqb b quote ≡ t → cond t false true ≡ false → cond (eqb b carriageReturn && eqb c lineFeed) (some rest) none ≡ none
-    go true p q = rw (eqb-true b quote p)
-    go false p q = absurd (true≢false q)
-no-end-inside false b (c ∷ rest) e = refl
-
--- or at a byte that is no CR
-pub no-end-other : (outside : Bool) (b : ℕ) (rest : List ℕ) → eqb b carriageReturn ≡ false → behindEnd outside (b ∷ rest) ≡ none
+-- no record ends at a CR that no LF follows
+pub no-end-alone : (b c : ℕ) (rest : List ℕ) → (c ≡ lineFeed → ⊥) → behindEnd true (b ∷ c ∷ rest) ≡ none
 unfolding behindEnd
-no-end-other outside b [] e = refl
-no-end-other true b (c ∷ rest) e = rw e
-no-end-other false b (c ∷ rest) e = refl
-
--- or at a CR that no LF follows
-pub no-end-alone : (outside : Bool) (b c : ℕ) (rest : List ℕ) → (c ≡ lineFeed → ⊥) → behindEnd outside (b ∷ c ∷ rest) ≡ none
-unfolding behindEnd
-no-end-alone true b c rest ne = rw (ne-eqb c lineFeed ne) (go (eqb b carriageReturn))
+no-end-alone b c rest ne = rw (ne-eqb c lineFeed ne) (go (eqb b carriageReturn))
   where
     go : (t : Bool) → cond (t && false) (some rest) none ≡ none
     go true = refl
     go false = refl
-no-end-alone false b c rest ne = refl
 
 -- a record ends at a CR LF outside quotes
-pub end-outside : (outside : Bool) (b c : ℕ) (rest : List ℕ) → outsideAfter outside b ≡ true → b ≡ carriageReturn → c ≡ lineFeed
-    → behindEnd outside (b ∷ c ∷ rest) ≡ some rest
-unfolding behindEnd outsideAfter
-end-outside true b c rest e p q = rw (p, q)
-end-outside false b c rest e p q = let z : false ≡ true = rw p at e in absurd (false≢true z)
+pub end-outside : (b c : ℕ) (rest : List ℕ) → b ≡ carriageReturn → c ≡ lineFeed → behindEnd true (b ∷ c ∷ rest) ≡ some rest
+unfolding behindEnd
+end-outside b c rest p q = rw (p, q)
 
 -- ---- the field
 
@@ -110,25 +89,6 @@ pub field-ended : (outside : Bool) (b : ℕ) (rest : List ℕ) (at : ℕ) → (o
     → fieldFrom at (rawFieldsFrom outside (b ∷ rest)) ≡ record { end = at; more = true }
 unfolding rawFieldsFrom
 field-ended outside b rest at e = rw e (comma-cuts b at _ (raw-non-empty (outsideAfter outside b) rest))
-
--- the text ends here
-pub field-last : (outside : Bool) (text : List ℕ) (at : ℕ) → length text ≤ at
-    → fieldFrom at (rawFieldsFrom outside (drop at text)) ≡ record { end = at; more = false }
-unfolding rawFieldsFrom fieldFrom
-field-last outside text at h = let z : at + 0 ≡ at = omega arith in rw (drop-of-length-le text {i = at} h, rawFieldsFrom, fieldFrom, z)
-
--- whether a comma stands outside quotes can be asked before it or behind it
-pub comma-outside : (outside : Bool) (b : ℕ) → (outside && eqb b comma) ≡ (outsideAfter outside b && eqb b comma)
-unfolding outsideAfter
-comma-outside outside b = go (eqb b quote) refl
-  where
-    go : (t : Bool) → eqb b quote ≡ t → (outside && eqb b comma) ≡ (cond t (not outside) outside && eqb b comma)
-    go true p = rw (eqb-true b quote p) (both outside)
-      where
-        both : (o : Bool) → (o && false) ≡ (not o && false)
-        both true = refl
-        both false = refl
-    go false p = refl
 
 -- ---- the fields one after the other
 

@@ -8,9 +8,12 @@ use native.Mathlib.Omega.{arith}
 use types.Run.{miss}
 use lib.ListN.{length, drop, drop-of-length-le}
 use borrow.Author.Needs.{needs}
+use borrow.Author.Tests.{not-false}
+use Rattle.csv.specs.Bytes.{quote}
 use Rattle.csv.specs.Measures.{measured}
 use Rattle.csv.specs.Laws.Spans.{bytes-from}
 use Rattle.csv.specs.Laws.Measures.{leftMeasured, measured-quoted, left-itself, left-doubled, left-closed, left-single, left-refused, left-open}
+use Rattle.csv.specs.Laws.Scans.{plain-means, plain-allowed}
 use Rattle.csv.proofs.fields.measure_quoted.Statement.{statement}
 use Rattle.csv.proofs.fields.measure_quoted.Tie as tie
 
@@ -26,24 +29,27 @@ loop-holds c = (omega arith, measured-quoted _ (c .before .pre .0) (c .before .p
 shared-slice-read-b : tie.Need-shared-slice-read-b Inv-loop μ-loop
 shared-slice-read-b c = omega arith
 
-sub-if2 : tie.Need-sub-if2 Inv-loop μ-loop
-sub-if2 c = omega arith
+is-plain-requires : tie.Need-is-plain-requires Inv-loop μ-loop
+is-plain-requires c κs = search needs
+
+sub-if3 : tie.Need-sub-if3 Inv-loop μ-loop
+sub-if3 c = omega arith
 
 returns : tie.Need-returns Inv-loop μ-loop
 returns c =
-    let loop = c .before .before .before .before .loop in
-    let raw = c .before .before .before .before .before .before .args .raw .now in
+    let loop = c .before .before .before .before .before .before .loop in
+    let raw = c .before .before .before .before .before .before .before .before .args .raw .now in
     let last : length raw ≤ loop .at + 1 = omega arith in
     sym
     (loop .inv .1
     ∙ rw (bytes-from raw (loop .at) (omega arith), drop-of-length-le raw {i = loop .at + 1} last)
-    (left-closed (loop .length) (loop .doubled) _ (c .before .if1 .taken)))
+    (left-closed (loop .length) (loop .doubled) _ (c .before .if2 .taken)))
 
-add-if3 : tie.Need-add-if3 Inv-loop μ-loop
-add-if3 c = omega arith
+add-if4 : tie.Need-add-if4 Inv-loop μ-loop
+add-if4 c = omega arith
 
-shared-slice-read-if3 : tie.Need-shared-slice-read-if3 Inv-loop μ-loop
-shared-slice-read-if3 c = omega arith
+shared-slice-read-if4 : tie.Need-shared-slice-read-if4 Inv-loop μ-loop
+shared-slice-read-if4 c = omega arith
 
 add-at : tie.Need-add-at Inv-loop μ-loop
 add-at c = omega arith
@@ -57,10 +63,10 @@ enum-told c = search needs
 add-length : tie.Need-add-length Inv-loop μ-loop
 add-length c = omega arith
 
--- where the two ways meet the field goes on
-inside : (c : tie.Joined1 Inv-loop μ-loop) → let loop = c .before .before .before .loop in
-    (loop .at ≤ c .if1 .at) × (c .if1 .at < length (c .before .before .before .before .before .args .raw .now))
-inside c = ⊎-elim (λ w. omega arith) (λ w. omega arith) (c .if1 .came)
+-- where the ways meet the field goes on
+inside : (c : tie.Joined1 Inv-loop μ-loop) → let loop = c .before .before .before .before .loop in
+    (loop .at ≤ c .if1 .at) × (c .if1 .at < length (c .before .before .before .before .before .before .args .raw .now))
+inside c = ⊎-elim (λ w. omega arith) (⊎-elim (λ w. omega arith) (λ w. omega arith)) (c .if1 .came)
 
 add-at-2 : tie.Need-add-at-2 Inv-loop μ-loop
 add-at-2 c = omega (arith, inside (c .before))
@@ -69,21 +75,27 @@ loop-less : tie.Need-loop-less Inv-loop μ-loop
 loop-less c = omega (arith, inside (c .before))
 
 -- and is measured from there
-further : (c : tie.Joined1 Inv-loop μ-loop) → let raw = c .before .before .before .before .before .args .raw .now in
-    measured raw ≡ leftMeasured (c .before .before .before .loop .length + 1) (c .if1 .doubled) (drop (c .if1 .at + 1) raw)
+further : (c : tie.Joined1 Inv-loop μ-loop) → let raw = c .before .before .before .before .before .before .args .raw .now in
+    measured raw ≡ leftMeasured (c .before .before .before .before .loop .length + 1) (c .if1 .doubled) (drop (c .if1 .at + 1) raw)
 further c =
-    let loop = c .before .before .before .loop in
-    let raw = c .before .before .before .before .before .args .raw .now in
+    let loop = c .before .before .before .before .loop in
+    let raw = c .before .before .before .before .before .before .args .raw .now in
     ⊎-elim
     (λ w.
     loop .inv .1
-    ∙ rw (w .4, w .5, bytes-from raw (loop .at) (omega arith), bytes-from raw (loop .at + 1) (omega arith))
-    (left-doubled (loop .length) (loop .doubled) _ _ _ (w .0 .taken) (w .3 .left)))
+    ∙ rw (w .5, w .6, bytes-from raw (loop .at) (omega arith), bytes-from raw (loop .at + 1) (omega arith))
+    (left-doubled (loop .length) (loop .doubled) _ _ _ (w .1 .taken) (w .4 .left)))
+    (⊎-elim
     (λ w.
     loop .inv .1
-    ∙ rw (w .3, w .4, bytes-from raw (loop .at) (omega arith))
-    (left-itself (loop .length) (loop .doubled) _ _ (w .0 .left)
-    (λ e. miss (0 ∷ 1 ∷ 2 ∷ 3 ∷ 4 ∷ []) 5 tt (rw (w .1 .ensures ∙ e) at (w .2 .keys2)))))
+    ∙ rw (w .4, w .5, bytes-from raw (loop .at) (omega arith))
+    (left-itself (loop .length) (loop .doubled) _ _ (w .1 .left)
+    (λ e. miss (0 ∷ 1 ∷ 2 ∷ 3 ∷ 4 ∷ []) 5 tt (rw (w .2 .ensures ∙ e) at (w .3 .keys2)))))
+    (λ w.
+    let plain = sym (c .before .is-plain .ensures) ∙ not-false _ (w .0 .left) in
+    loop .inv .1
+    ∙ rw (w .1, w .2, bytes-from raw (loop .at) (omega arith))
+    (left-itself (loop .length) (loop .doubled) _ _ (plain-means 0x20 0x7E quote _ plain .2) (plain-allowed _ plain))))
     (c .if1 .came)
 
 loop-again : tie.Need-loop-again Inv-loop μ-loop
@@ -96,22 +108,22 @@ returns-2 c =
 
 returns-3 : tie.Need-returns-3 Inv-loop μ-loop
 returns-3 c =
-    let loop = c .before .before .before .before .before .before .loop in
-    let raw = c .before .before .before .before .before .before .before .before .args .raw .now in
+    let loop = c .before .before .before .before .before .before .before .before .loop in
+    let raw = c .before .before .before .before .before .before .before .before .before .before .args .raw .now in
     let more : loop .at + 1 < length raw = omega arith in
     sym
     (loop .inv .1
     ∙ rw (bytes-from raw (loop .at) (omega arith), bytes-from raw (loop .at + 1) more)
-    (left-single (loop .length) (loop .doubled) _ _ _ (c .before .before .before .if1 .taken) (c .if3 .taken)))
+    (left-single (loop .length) (loop .doubled) _ _ _ (c .before .before .before .if2 .taken) (c .if4 .taken)))
 
 returns-4 : tie.Need-returns-4 Inv-loop μ-loop
 returns-4 c =
-    let loop = c .before .before .before .before .before .before .loop in
-    let raw = c .before .before .before .before .before .before .before .before .args .raw .now in
+    let loop = c .before .before .before .before .before .before .before .before .loop in
+    let raw = c .before .before .before .before .before .before .before .before .before .before .args .raw .now in
     sym
     (loop .inv .1
     ∙ rw (bytes-from raw (loop .at) (omega arith))
-    (left-refused (loop .length) (loop .doubled) _ _ (c .before .before .before .if1 .left)
+    (left-refused (loop .length) (loop .doubled) _ _ (c .before .before .before .if2 .left)
     (sym (c .before .before .class-of .ensures) ∙ c .enum-told .given .1)))
 
 pub measure-quoted-spec : {M : Type 1} → statement M
@@ -122,10 +134,11 @@ measure-quoted-spec =
     μ-loop
     loop-holds
     shared-slice-read-b
-    sub-if2
+    is-plain-requires
+    sub-if3
     returns
-    add-if3
-    shared-slice-read-if3
+    add-if4
+    shared-slice-read-if4
     add-at
     class-of-requires
     enum-told

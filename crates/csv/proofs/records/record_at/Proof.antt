@@ -1,108 +1,98 @@
--- `csv::records::record_at` meets its contract. The loop's invariant: the span is that of a record whose text so far ends here, with
--- what is left of the file read from inside or outside quotes. The measure is what is left. Assumes nothing.
-use mathlib.Core.Path.{_≡_, refl, sym, ap, _∙_}
+-- `csv::records::record_at` meets its contract. The loop's invariant: the span is that of a record whose text so far ends here, outside
+-- quotes. The measure is what is left. Assumes nothing.
+use mathlib.Core.Path.{_≡_, refl, sym, _∙_}
 use mathlib.Core.Logic.{⊎-elim}
-use mathlib.Core.Bool.{Bool}
+use mathlib.Core.Bool.{true}
 use mathlib.Core.Option.{none}
 use mathlib.Core.List.{_∷_}
 use Prim.Native.Nat.{_+_, _-_, _<_}
 use native.Mathlib.Omega.{arith}
 use lib.ListN.{length, drop, getD, drop-of-length-le}
-use borrow.Author.Tests.{ltb-true, ltb-false, eqb-true, eq-eqb, ne-eqb}
-use Rattle.csv.specs.Records.{outsideAfter, behindEnd, firstFrom, firstRecord}
+use borrow.Author.Needs.{needs}
+use Rattle.csv.specs.Records.{behindEnd, firstFrom, firstRecord}
 use Rattle.csv.specs.Spans.{recordSpan}
-use Rattle.csv.specs.Laws.Spans.{spanOf, bytes-from, record-passed, record-ended, record-unended, no-end-inside, no-end-other, no-end-alone, end-outside}
+use Rattle.csv.specs.Laws.Spans.{spanOf, bytes-from, record-ended, record-unended, no-end-alone, end-outside}
+use Rattle.csv.specs.Laws.Scans.{record-found, cr-passed}
 use Rattle.csv.proofs.records.record_at.Statement.{statement}
 use Rattle.csv.proofs.records.record_at.Tie as tie
 
 abbrev Inv-loop : tie.InvT-loop
-Inv-loop file from at₀ outside₀ at outside = recordSpan file from ≡ spanOf at (firstFrom outside (drop at file))
+Inv-loop file from at₀ at = recordSpan file from ≡ spanOf at (firstFrom true (drop at file))
 
 abbrev μ-loop : tie.MeasureT-loop
-μ-loop file from at₀ outside₀ at outside = length file - at
+μ-loop file from at₀ at = length file - at
 
 loop-holds : tie.Need-loop-holds Inv-loop μ-loop
 unfolding recordSpan firstRecord
 loop-holds c = refl
 
-shared-slice-read-b : tie.Need-shared-slice-read-b Inv-loop μ-loop
-shared-slice-read-b c = omega arith
+find-outside-requires : tie.Need-find-outside-requires Inv-loop μ-loop
+find-outside-requires c κs = search needs
 
--- behind the first test the flag speaks of the place behind the byte
-flag : (c : tie.Joined1 Inv-loop μ-loop) → let loop = c .before .before .before .loop in
-    c .if1 .outside ≡ outsideAfter (loop .outside) (getD (c .before .before .before .before .args .file .now) (loop .at) 0)
-unfolding outsideAfter
-flag c = ⊎-elim (λ w. rw (eq-eqb _ _ (w .0 .taken)) (w .1)) (λ w. rw (ne-eqb _ _ (w .0 .left)) (w .1)) (c .if1 .came)
+-- the record goes on up to the CR, or to the end
+found : (c : tie.After-find-outside Inv-loop μ-loop) → let args = c .before .before .before .before .args in
+    let at = c .find-outside .result in
+    recordSpan (args .file .now) (args .from) ≡ spanOf at (firstFrom true (drop at (args .file .now)))
+found c = c .before .before .loop .inv ∙ record-found _ _ _ (c .find-outside .ensures)
 
-sub-if4 : tie.Need-sub-if4 Inv-loop μ-loop
-sub-if4 c = omega arith
+sub-if2 : tie.Need-sub-if2 Inv-loop μ-loop
+sub-if2 c = omega arith
 
-add-if5 : tie.Need-add-if5 Inv-loop μ-loop
-add-if5 c = omega arith
+add-if3 : tie.Need-add-if3 Inv-loop μ-loop
+add-if3 c = omega arith
 
-shared-slice-read-if5 : tie.Need-shared-slice-read-if5 Inv-loop μ-loop
-shared-slice-read-if5 c = omega (arith, ltb-true)
+shared-slice-read-if3 : tie.Need-shared-slice-read-if3 Inv-loop μ-loop
+shared-slice-read-if3 c = omega arith
 
-add-t19 : tie.Need-add-t19 Inv-loop μ-loop
-add-t19 c = omega (arith, ltb-true)
+add-t13 : tie.Need-add-t13 Inv-loop μ-loop
+add-t13 c = omega arith
 
 returns : tie.Need-returns Inv-loop μ-loop
 returns c =
-    let loop = c .before .before .before .before .before .before .before .before .loop in
-    let file = c .before .before .before .before .before .before .before .before .before .args .file .now in
-    let h : loop .at + 1 < length file = omega (arith, ltb-true) in
-    let outside = sym (flag (c .before .before .before .before .before)) ∙ c .before .before .before .before .if2 .taken in
-    let cr = eqb-true _ _ (c .before .before .before .if3 .taken) in
-    let e = end-outside (loop .outside) _ _ (drop (loop .at + 1 + 1) file) outside cr (c .if5 .taken) in
-    sym
-    (loop .inv
-    ∙ rw (bytes-from file (loop .at) (omega arith), bytes-from file (loop .at + 1) h) (record-ended (loop .outside) _ _ _ (loop .at) e))
+    let after = c .before .before .before .before in
+    let at = after .find-outside .result in
+    let file = after .before .before .before .before .args .file .now in
+    let inside = c .before .before .before .if1 .taken in
+    let h : at + 1 < length file = omega arith in
+    let e = end-outside (getD file at 0) _ (drop (at + 1 + 1) file) (after .find-outside .ensures .stops inside) (c .if3 .taken) in
+    sym (found after ∙ rw (bytes-from file at inside, bytes-from file (at + 1) h) (record-ended true _ _ _ at e))
 
 add-at : tie.Need-add-at Inv-loop μ-loop
 add-at c = omega arith
 
 loop-less : tie.Need-loop-less Inv-loop μ-loop
-loop-less c = omega arith
+loop-less c = omega (arith, c .before .before .find-outside .ensures .place)
 
--- no record ends where the first line of tests says no
-passed : (c : tie.Joined2 Inv-loop μ-loop) → let loop = c .before .before .before .before .loop in
-    let file = c .before .before .before .before .before .args .file .now in
-    behindEnd (loop .outside) (getD file (loop .at) 0 ∷ drop (loop .at + 1) file) ≡ none
+-- no record ends at a CR that no LF follows
+unended : (c : tie.Joined2 Inv-loop μ-loop) → let at = c .before .before .find-outside .result in
+    let file = c .before .before .before .before .before .before .args .file .now in
+    behindEnd true (getD file at 0 ∷ drop (at + 1) file) ≡ none
 unfolding behindEnd
-passed c =
-    let loop = c .before .before .before .before .loop in
-    let file = c .before .before .before .before .before .args .file .now in
-    let b = getD file (loop .at) 0 in
-    let rest = drop (loop .at + 1) file in
-    ⊎-elim
-    (λ w. rw (drop-of-length-le file {i = loop .at + 1} (omega (arith, ltb-false))))
-    (⊎-elim
-    (λ w. no-end-other (loop .outside) b rest (w .1 .left))
-    (λ w. no-end-inside (loop .outside) b rest (sym (flag (c .before)) ∙ w .left)))
-    (c .if2 .came)
-
--- nor where no LF follows, so the record goes on wherever the turn ends
-unended : (c : tie.Joined2-2 Inv-loop μ-loop) → let loop = c .before .before .before .before .loop in
-    let file = c .before .before .before .before .before .args .file .now in
-    behindEnd (loop .outside) (getD file (loop .at) 0 ∷ drop (loop .at + 1) file) ≡ none
 unended c =
-    let loop = c .before .before .before .before .loop in
-    let file = c .before .before .before .before .before .args .file .now in
+    let at = c .before .before .find-outside .result in
+    let file = c .before .before .before .before .before .before .args .file .now in
     ⊎-elim
-    (λ w. rw (bytes-from file (loop .at + 1) (omega (arith, ltb-true))) (no-end-alone (loop .outside) _ _ _ (w .4 .left)))
-    (λ joined. passed (record { before = c .before; if2 = joined }))
+    (λ w. rw (bytes-from file (at + 1) (omega arith)) (no-end-alone (getD file at 0) _ (drop (at + 1 + 1) file) (w .2 .left)))
+    (λ w. rw (drop-of-length-le file {i = at + 1} (omega arith)))
     (c .if2 .came)
 
 loop-again : tie.Need-loop-again Inv-loop μ-loop
 loop-again c =
-    let loop = c .before .before .before .before .loop in
-    let file = c .before .before .before .before .before .args .file .now in
-    loop .inv
-    ∙ rw (bytes-from file (loop .at) (omega arith)) (record-passed (loop .outside) _ _ (loop .at) (unended c))
-    ∙ ap (λ (outside : Bool). spanOf (loop .at + 1) (firstFrom outside (drop (loop .at + 1) file))) (sym (flag (c .before)))
+    let after = c .before .before in
+    let at = after .find-outside .result in
+    let file = after .before .before .before .before .args .file .now in
+    let inside = c .before .if1 .taken in
+    found after
+    ∙ rw (bytes-from file at inside) (cr-passed _ (drop (at + 1) file) at (after .find-outside .ensures .stops inside) (unended c))
+
+loop-less-2 : tie.Need-loop-less-2 Inv-loop μ-loop
+loop-less-2 c = omega arith
+
+loop-again-2 : tie.Need-loop-again-2 Inv-loop μ-loop
+loop-again-2 c = found (c .before)
 
 returns-2 : tie.Need-returns-2 Inv-loop μ-loop
-returns-2 c = sym (c .before .loop .inv ∙ record-unended (c .before .loop .outside) _ (c .before .loop .at) (c .loop-test .left))
+returns-2 c = sym (c .before .loop .inv ∙ record-unended true _ (c .before .loop .at) (c .loop-test .left))
 
 pub record-at-spec : {M : Type 1} → statement M
 record-at-spec =
@@ -111,13 +101,15 @@ record-at-spec =
     Inv-loop
     μ-loop
     loop-holds
-    shared-slice-read-b
-    sub-if4
-    add-if5
-    shared-slice-read-if5
-    add-t19
+    find-outside-requires
+    sub-if2
+    add-if3
+    shared-slice-read-if3
+    add-t13
     returns
     add-at
     loop-less
     loop-again
+    loop-less-2
+    loop-again-2
     returns-2)
