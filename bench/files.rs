@@ -51,6 +51,11 @@ fn closed() -> Vec<u8> {
     file
 }
 
+/// A beginning and then a part again and again, up to the longest file.
+fn repeated(beginning: &[u8], part: &[u8]) -> Vec<u8> {
+    beginning.iter().chain(part.iter().cycle()).take(FILE_BYTES).cloned().collect()
+}
+
 fn cases() -> Vec<Case> {
     vec![
         Case { name: "12 engines, 64 deliveries", file: full() },
@@ -58,6 +63,10 @@ fn cases() -> Vec<Case> {
         Case { name: "quoted to the end", file: closed() },
         Case { name: "unquoted to the end", file: longest(b"plan,fixed,60,9\r\nengine,", b'a') },
         Case { name: "a field for every byte", file: longest(b"plan,fixed,60,9", b',') },
+        Case { name: "77 records, then none", file: repeated(&full(), b"delivery,D,5,") },
+        Case { name: "text, commas, some quotes", file: repeated(b"plan,fixed,60,9\r\nengine,\"", b"abc def,ghi \r\n\"\"jklmno,") },
+        Case { name: "doubled quotes alone", file: longest(b"plan,fixed,60,9\r\nengine,", b'"') },
+        Case { name: "a fault at its beginning", file: longest(b"plan,fixed,60,9\r\nengine,\r", b'a') },
         Case { name: "the page's example", file: example() },
     ]
 }
