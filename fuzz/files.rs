@@ -1,5 +1,5 @@
 // Feeds random files, valid and damaged, to the proved call and to the reference, and compares the answers and everything lent: the tables,
-// the output, and a margin around each that nobody may touch.
+// the output, and a margin around each that nobody may touch. With a program it feeds each file to that as well and compares what it prints.
 
 #[path = "../tests/reference.rs"]
 mod reference;
@@ -7,6 +7,9 @@ mod reference;
 mod proved;
 
 use reference::{Answer, PRINT_BYTES, SPARE_NUMBERS, TABLE_NUMBERS};
+use std::io::{ErrorKind, Write};
+use std::process::{Command, Stdio};
+use std::str::FromStr;
 
 const FILE_BYTES: usize = 32_768;
 
@@ -422,10 +425,26 @@ fn compare(seed: u64, case: u64, counts: &mut Counts) -> Result<(), String> {
         counts.add(expected, &file, &lengths);
         return Ok(());
     }
-    let escaped: String = file.iter().flat_map(|byte| std::ascii::escape_default(*byte)).map(char::from).collect();
     let Lengths { table, spare, output } = lengths;
-    Err(format!("seed {seed}, case {case}: a difference\nfile of {} bytes: {escaped}\nlent: table {table}, spare {spare}, output {output}\n\
-        proved:    {proved:?}\nreference: {expected:?}\n{}", file.len(), differences(&ours, &theirs)))
+    Err(format!("seed {seed}, case {case}: a difference\nfile of {} bytes: {}\nlent: table {table}, spare {spare}, output {output}\n\
+        proved:    {proved:?}\nreference: {expected:?}\n{}", file.len(), file.escape_ascii(), differences(&ours, &theirs)))
+}
+
+/// One file through a pipe to the program, whose print is judged alone; what it does not read of a long file is not written.
+fn compare_print(seed: u64, case: u64, program: &str) -> Result<(), String> {
+    let file = random_file(&mut Random(Random(seed).next().wrapping_add(case)));
+    let mut child = Command::new(program).stdin(Stdio::piped()).stdout(Stdio::piped()).stderr(Stdio::piped()).spawn().expect("the program");
+    match child.stdin.take().unwrap().write_all(&file) {
+        Err(error) if error.kind() == ErrorKind::BrokenPipe && file.len() > FILE_BYTES => {}
+        written => written.expect("a pipe to the program"),
+    }
+    let printed = child.wait_with_output().expect("the program's print");
+    let expected = reference::program_print(&file);
+    if printed.stdout == expected && printed.stderr.is_empty() && printed.status.success() {
+        return Ok(());
+    }
+    Err(format!("seed {seed}, case {case}: the program prints otherwise\nfile of {} bytes: {}\nprogram:   {}, {}\nreference: {}\n",
+        file.len(), file.escape_ascii(), printed.status, printed.stdout.escape_ascii(), expected.escape_ascii()))
 }
 
 /// Where the lent numbers and bytes first differ, as places in what was lent; a negative place is in the margin before it.
@@ -439,10 +458,10 @@ fn differences(ours: &Lent, theirs: &Lent) -> String {
     first("table", &ours.table, &theirs.table) + &first("spare", &ours.spare, &theirs.spare) + &first("output", &ours.output, &theirs.output)
 }
 
-/// The number behind an option, where it is given.
-fn option(arguments: &[String], name: &str) -> Option<u64> {
+/// What stands behind an option, where it is given.
+fn option<T: FromStr>(arguments: &[String], name: &str) -> Option<T> {
     let place = arguments.iter().position(|argument| argument == name)?;
-    Some(arguments.get(place + 1).and_then(|value| value.parse().ok()).expect("a number behind the option"))
+    Some(arguments.get(place + 1).and_then(|value| value.parse().ok()).expect("a value behind the option"))
 }
 
 fn main() {
@@ -450,10 +469,12 @@ fn main() {
     let seed = option(&arguments, "--seed").unwrap_or(1);
     let count = option(&arguments, "--count").unwrap_or(400_000);
     let cases = option(&arguments, "--case").map_or(0..count, |case| case..case + 1);
+    let program: Option<String> = option(&arguments, "--program");
     println!("seed {seed}, {} files", cases.end - cases.start);
     let mut counts = Counts::default();
     for case in cases {
-        if let Err(account) = compare(seed, case, &mut counts) {
+        let printed = program.as_ref().map_or(Ok(()), |program| compare_print(seed, case, program));
+        if let Err(account) = compare(seed, case, &mut counts).and(printed) {
             print!("{account}");
             std::process::exit(1);
         }
