@@ -1,3 +1,4 @@
 -- What the exported functions return.
 pub mod Laws
-pub mod Packed
+pub mod Numbers
+pub mod Replies

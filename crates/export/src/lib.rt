@@ -1,17 +1,41 @@
-// The allocation on numbers and the call with a file for programs in other languages: the answer or refusal in one number.
+// The allocation on numbers, the call with a file and the spare lookup for programs in other languages: the result as a struct of numbers.
+// interface/fothwen.h declares them for C, interface/fothwen.rs for Rust.
 use planfile::FileAnswer;
 use planning::Allocation;
+use planning::Answer;
+use planning::Lookup;
 use planning::Mode;
 use planning::Outcome;
+use planning::Refusal;
 ghost use mathlib.Core.Path.{_≡_};
-ghost use Prim.Native.Nat.{_≤_};
-ghost use Rattle.planning.specs.Numbers.{allocation as allocationOf, tableOnExit, spareOnExit};
 ghost use Rattle.allocation.specs.Numbers.{callOn};
 ghost use Rattle.filecall.specs.Calls.{callWith};
 ghost use Rattle.planfile.specs.FileCall.{answerToFile, fileTable, fileSpare, fileOutput};
-ghost use Rattle.export.specs.Packed.{modeOf, wordOf, packed, packedOf, packedFile};
+ghost use Rattle.export.specs.Numbers.{modeOf, minutesUnder, allocationBy, tableBy, spareBy};
+ghost use Rattle.export.specs.Replies.{wordOf, answeredBy, refusedBy, replyOf, fileReplyOf, PermittedReply};
 
-// 0 is fixed, any other number shortest.
+// What planning comes to: the word is 0 found, 1 none, 2 stopped, 3 refused. An answer has its minutes and tries, and with a file the
+// length of its print; a refusal has its number and place. The other numbers are 0.
+#[repr(C)]
+pub struct PlanReply {
+    pub word: u64,
+    pub minutes: u64,
+    pub tries: u64,
+    pub length: u64,
+    pub number: u64,
+    pub place: u64,
+}
+
+// What a spare lookup comes to: the word is 0 where an engine is named, 1 none, 3 refused. The engine is counted from 0.
+#[repr(C)]
+pub struct LookupReply {
+    pub word: u64,
+    pub engine: u64,
+    pub number: u64,
+    pub place: u64,
+}
+
+// 0 is fixed; 1 is shortest, and what stands for a number that is no mode.
 fn mode_of(mode: u64) -> Mode
     ensures { λ r. ⌜ r ≡ modeOf mode ⌝ }
 {
@@ -22,7 +46,13 @@ fn mode_of(mode: u64) -> Mode
     }
 }
 
-// 0 found, 1 none, 2 stopped.
+// The minutes, or 0 with a number that is no mode: both are refused by 6 at the plan's record, and minutes are the first that 6 looks at.
+fn minutes_under(mode: u64, minutes: u64) -> u64
+    ensures { λ r. ⌜ r ≡ minutesUnder mode minutes ⌝ }
+{
+    if mode <= 1 { minutes } else { 0 }
+}
+
 fn word_of(outcome: Outcome) -> u64
     ensures { λ r. ⌜ r ≡ wordOf outcome ⌝ }
 {
@@ -33,22 +63,35 @@ fn word_of(outcome: Outcome) -> u64
     }
 }
 
-// Four numbers in one.
-fn pack(word: u64, first: u64, second: u64, third: u64) -> u64
-    requires { ⌜ word ≤ 3 ⌝ }
-    ensures { λ r. ⌜ r ≡ packed word first second third ⌝ }
+fn answered(answer: Answer, length: u64) -> PlanReply
+    ensures { λ r. ⌜ r ≡ answeredBy answer length ⌝ }
 {
-    if first < 16384 {
-        if second < 1073741824 {
-            if third < 131072 {
-                return word + 4 * (first + 16384 * (second + 1073741824 * third));
-            }
-        }
+    let outcome = answer.outcome;
+    PlanReply {
+        word: word_of(outcome),
+        minutes: answer.minutes,
+        tries: answer.tries,
+        length: length,
+        number: 0,
+        place: 0,
     }
-    18446744073709551615
 }
 
-// `allocation::allocate`, with the mode as a number and the result in one number.
+fn refused(refusal: Refusal) -> PlanReply
+    ensures { λ r. ⌜ r ≡ refusedBy refusal ⌝ }
+{
+    let fault = refusal.fault;
+    PlanReply {
+        word: 3,
+        minutes: 0,
+        tries: 0,
+        length: 0,
+        number: planning::number_of(fault),
+        place: refusal.place,
+    }
+}
+
+// `allocation::allocate`, with the mode as a number.
 #[no_mangle]
 pub extern "C" fn fothwen_allocate<'a>(
     mode: u64,
@@ -60,14 +103,14 @@ pub extern "C" fn fothwen_allocate<'a>(
     limits: &'a [u64],
     table: &mut [u64],
     spare: &mut [u64],
-) -> u64
-    ensures result { λ r. ⌜ r ≡ packedOf (allocationOf (callOn (modeOf mode) minutes allowance (now (watts .entry)) (now (fuels .entry)) (now (energies .entry)) (now (limits .entry)) (now (table .entry)) (now (spare .entry)))) ⌝ }
-    ensures table { λ r. ⌜ now (table .exit) ≡ tableOnExit (callOn (modeOf mode) minutes allowance (now (watts .entry)) (now (fuels .entry)) (now (energies .entry)) (now (limits .entry)) (now (table .entry)) (now (spare .entry))) ⌝ }
-    ensures spare { λ r. ⌜ now (spare .exit) ≡ spareOnExit (callOn (modeOf mode) minutes allowance (now (watts .entry)) (now (fuels .entry)) (now (energies .entry)) (now (limits .entry)) (now (table .entry)) (now (spare .entry))) ⌝ }
+) -> PlanReply
+    ensures result { λ r. ⌜ r ≡ replyOf (allocationBy mode (callOn (modeOf mode) minutes allowance (now (watts .entry)) (now (fuels .entry)) (now (energies .entry)) (now (limits .entry)) (now (table .entry)) (now (spare .entry)))) ⌝ }
+    ensures table { λ r. ⌜ now (table .exit) ≡ tableBy mode (callOn (modeOf mode) minutes allowance (now (watts .entry)) (now (fuels .entry)) (now (energies .entry)) (now (limits .entry)) (now (table .entry)) (now (spare .entry))) ⌝ }
+    ensures spare { λ r. ⌜ now (spare .exit) ≡ spareBy mode (callOn (modeOf mode) minutes allowance (now (watts .entry)) (now (fuels .entry)) (now (energies .entry)) (now (limits .entry)) (now (table .entry)) (now (spare .entry))) ⌝ }
 {
     let r = allocation::allocate(
         mode_of(mode),
-        minutes,
+        minutes_under(mode, minutes),
         allowance,
         watts,
         fuels,
@@ -77,39 +120,58 @@ pub extern "C" fn fothwen_allocate<'a>(
         spare,
     );
     match r {
-        Allocation::Answered(answer) => {
-            let outcome = answer.outcome;
-            pack(word_of(outcome), answer.minutes, answer.tries, 0)
-        }
-        Allocation::Refused(refusal) => {
-            let fault = refusal.fault;
-            pack(3, planning::number_of(fault), refusal.place, 0)
-        }
+        Allocation::Answered(answer) => answered(answer, 0),
+        Allocation::Refused(refusal) => refused(refusal),
     }
 }
 
-// `filecall::plan_file`, with the result in one number.
+// `filecall::plan_file`.
 #[no_mangle]
 pub extern "C" fn fothwen_plan_file(
     file: &[u8],
     table: &mut [u64],
     spare: &mut [u64],
     output: &mut [u8],
-) -> u64
-    ensures result { λ r. ⌜ r ≡ packedFile (answerToFile (callWith (now (file .entry)) (now (table .entry)) (now (spare .entry)) (now (output .entry)))) ⌝ }
+) -> PlanReply
+    ensures result { λ r. ⌜ r ≡ fileReplyOf (answerToFile (callWith (now (file .entry)) (now (table .entry)) (now (spare .entry)) (now (output .entry)))) ⌝ }
     ensures table { λ r. ⌜ now (table .exit) ≡ fileTable (callWith (now (file .entry)) (now (table .entry)) (now (spare .entry)) (now (output .entry))) ⌝ }
     ensures spare { λ r. ⌜ now (spare .exit) ≡ fileSpare (callWith (now (file .entry)) (now (table .entry)) (now (spare .entry)) (now (output .entry))) ⌝ }
     ensures output { λ r. ⌜ now (output .exit) ≡ fileOutput (callWith (now (file .entry)) (now (table .entry)) (now (spare .entry)) (now (output .entry))) ⌝ }
 {
     let r = filecall::plan_file(file, table, spare, output);
     match r {
-        FileAnswer::Printed(answer, n) => {
-            let outcome = answer.outcome;
-            pack(word_of(outcome), answer.minutes, answer.tries, n as u64)
-        }
-        FileAnswer::Refused(refusal) => {
+        FileAnswer::Printed(answer, n) => answered(answer, n as u64),
+        FileAnswer::Refused(refusal) => refused(refusal),
+    }
+}
+
+// `allocation::spare_lookup`. Which engine it names is the program's choice.
+#[no_mangle]
+pub extern "C" fn fothwen_spare_lookup(spare: &[u64], amount: u64) -> LookupReply
+    ensures { λ r. ⌜ PermittedReply (now (spare .entry)) amount r ⌝ }
+{
+    let found = allocation::spare_lookup(spare, amount);
+    match found {
+        Lookup::Engine(i) => LookupReply {
+            word: 0,
+            engine: i as u64,
+            number: 0,
+            place: 0,
+        },
+        Lookup::Nowhere => LookupReply {
+            word: 1,
+            engine: 0,
+            number: 0,
+            place: 0,
+        },
+        Lookup::Refused(refusal) => {
             let fault = refusal.fault;
-            pack(3, planning::number_of(fault), refusal.place, 0)
+            LookupReply {
+                word: 3,
+                engine: 0,
+                number: planning::number_of(fault),
+                place: refusal.place,
+            }
         }
     }
 }

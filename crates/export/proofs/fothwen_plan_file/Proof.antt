@@ -1,9 +1,8 @@
--- `export::fothwen_plan_file` meets its contract: what `plan_file` ensures, with the result in one number.
+-- `export::fothwen_plan_file` meets its contract: what `plan_file` ensures, with the result as numbers.
 -- Assumes nothing.
 use mathlib.Core.Path.{sym, ap, _∙_}
 use borrow.Author.Needs.{needs}
-use Rattle.export.specs.Laws.{word-small}
-use Rattle.export.specs.Packed.{packedFile}
+use Rattle.export.specs.Replies.{fileReplyOf}
 use Rattle.export.proofs.fothwen_plan_file.Statement.{statement}
 use Rattle.export.proofs.fothwen_plan_file.Tie as tie
 
@@ -13,20 +12,14 @@ plan-file-requires c κs = search needs
 enum-known-r : tie.Need-enum-known-r
 enum-known-r c = search needs
 
-word-of-requires : tie.Need-word-of-requires
-word-of-requires c κs = search needs
-
-pack-requires : tie.Need-pack-requires
-pack-requires c κs = word-small _ _ (c .word-of .ensures)
+answered-requires : tie.Need-answered-requires
+answered-requires c κs = search needs
 
 enum-known-r-2 : tie.Need-enum-known-r-2
 enum-known-r-2 c = search needs
 
-number-of-requires : tie.Need-number-of-requires
-number-of-requires c κs = search needs
-
-pack-requires-2 : tie.Need-pack-requires-2
-pack-requires-2 c κs = search needs
+refused-requires : tie.Need-refused-requires
+refused-requires c κs = search needs
 
 same-length : tie.Need-same-length
 same-length c = search needs
@@ -38,10 +31,10 @@ same-length-3 : tie.Need-same-length-3
 same-length-3 c = search needs
 
 returns : tie.Need-returns
-unfolding packedFile
+unfolding fileReplyOf
 returns c =
-    let told = c .before .before .before .before .before .before .before .before .before .before .before .plan-file .ensures in (
-      (rw (c .before .word-of .ensures) at (c .pack .ensures)) ∙ ap packedFile (sym (c .before .before .before .r .given .1) ∙ told .0),
+    let told = c .before .before .before .before .before .before .before .before .before .before .plan-file .ensures in (
+      (c .answered .ensures) ∙ ap fileReplyOf (sym (c .before .before .r .given .1) ∙ told .0),
       (told .1 .0, (told .1 .1 .0, told .1 .1 .1 .0)),
     )
 
@@ -55,10 +48,10 @@ same-length-6 : tie.Need-same-length-6
 same-length-6 c = search needs
 
 returns-2 : tie.Need-returns-2
-unfolding packedFile
+unfolding fileReplyOf
 returns-2 c =
-    let told = c .before .before .before .before .before .before .before .before .before .before .before .plan-file .ensures in (
-      (rw (c .before .number-of .ensures) at (c .pack2 .ensures)) ∙ ap packedFile (sym (c .before .before .before .r2 .given .1) ∙ told .0),
+    let told = c .before .before .before .before .before .before .before .before .before .before .plan-file .ensures in (
+      (c .refused .ensures) ∙ ap fileReplyOf (sym (c .before .before .r2 .given .1) ∙ told .0),
       (told .1 .0, (told .1 .1 .0, told .1 .1 .1 .0)),
     )
 
@@ -68,11 +61,9 @@ fothwen-plan-file-spec =
     (tie.spec
     plan-file-requires
     enum-known-r
-    word-of-requires
-    pack-requires
+    answered-requires
     enum-known-r-2
-    number-of-requires
-    pack-requires-2
+    refused-requires
     same-length
     same-length-2
     same-length-3

@@ -5,7 +5,7 @@ use mathlib.Core.Logic.{_≢_}
 use Prim.Native.Nat.{ℕ, zero, suc}
 use borrow.Author.Needs.{needs}
 use Rattle.planning.specs.declared.Mode.the-variants.{Shortest}
-use Rattle.export.specs.Packed.{modeOf}
+use Rattle.export.specs.Numbers.{modeOf}
 use Rattle.export.proofs.mode_of.Statement.{statement}
 use Rattle.export.proofs.mode_of.Tie as tie
 

@@ -1,7 +1,7 @@
 -- `export::word_of` meets its contract: by the outcome.
 -- Assumes nothing.
 use borrow.Author.Needs.{needs}
-use Rattle.export.specs.Packed.{wordOf}
+use Rattle.export.specs.Replies.{wordOf}
 use Rattle.export.proofs.word_of.Statement.{statement}
 use Rattle.export.proofs.word_of.Tie as tie
 

@@ -1,0 +1,54 @@
+-- What the exported functions return: an answer or a refusal as a struct of numbers.
+-- Assumes nothing.
+use mathlib.Core.Path.{_≡_}
+use Prim.Native.Nat.{ℕ}
+use mathlib.Core.List.{List}
+use Rattle.planning.specs.declared.Allocation.{Allocation}
+use Rattle.planning.specs.declared.Allocation.the-variants.{Answered, Refused}
+use Rattle.planning.specs.declared.Answer.{Answer}
+use Rattle.planning.specs.declared.Lookup.{Lookup}
+use Rattle.planning.specs.declared.Lookup.the-variants as lookup
+use Rattle.planning.specs.declared.Outcome.{Outcome}
+use Rattle.planning.specs.declared.Outcome.the-variants.{Found, None, Stopped}
+use Rattle.planning.specs.declared.Refusal.{Refusal}
+use Rattle.planning.specs.Refusals.{faultNumber}
+use Rattle.planning.specs.SpareLookup.{Permitted}
+use Rattle.planfile.specs.declared.FileAnswer.{FileAnswer}
+use Rattle.planfile.specs.declared.FileAnswer.the-variants as file
+use Rattle.export.specs.declared.PlanReply.{PlanReply}
+use Rattle.export.specs.declared.LookupReply.{LookupReply}
+
+-- 0 found, 1 none, 2 stopped; 3 is a refusal's
+unfoldable pub wordOf : Outcome → ℕ
+wordOf Found = 0
+wordOf None = 1
+wordOf Stopped = 2
+
+-- an answer with its minutes, its tries and the length of its print
+unfoldable pub answeredBy : Answer → (length : ℕ) → PlanReply
+answeredBy a length = record { word = wordOf (a .outcome); minutes = a .minutes; tries = a .tries; length = length; number = 0; place = 0 }
+
+-- a refusal with its number and place
+unfoldable pub refusedBy : Refusal → PlanReply
+refusedBy refusal =
+    record { word = 3; minutes = 0; tries = 0; length = 0; number = faultNumber (refusal .fault); place = refusal .place }
+
+-- the allocation on numbers prints nothing
+unfoldable pub replyOf : Allocation → PlanReply
+replyOf (Answered a) = answeredBy a 0
+replyOf (Refused refusal) = refusedBy refusal
+
+unfoldable pub fileReplyOf : FileAnswer → PlanReply
+fileReplyOf (file.Printed a n) = answeredBy a n
+fileReplyOf (file.Refused refusal) = refusedBy refusal
+
+-- an engine counted from 0; 1 for none; 3 for a refusal with its number and place
+unfoldable pub lookupReplyOf : Lookup → LookupReply
+lookupReplyOf (lookup.Engine i) = record { word = 0; engine = i; number = 0; place = 0 }
+lookupReplyOf lookup.Nowhere = record { word = 1; engine = 0; number = 0; place = 0 }
+lookupReplyOf (lookup.Refused refusal) =
+    record { word = 3; engine = 0; number = faultNumber (refusal .fault); place = refusal .place }
+
+-- The engine is the program's choice: the reply is that of a permitted answer.
+unfoldable pub PermittedReply : (spare : List ℕ) → (amount : ℕ) → LookupReply → Type 0
+PermittedReply spare amount r = (answer : Lookup) × (r ≡ lookupReplyOf answer) × Permitted spare amount answer
