@@ -1,15 +1,10 @@
 // Time per try of the proved allocation beside a plain Rust program with the same answers, in one process. The plain program's state is
 // handed on by value, holds 64 rests and limits, and its choice is a scan.
-use std::time::Instant;
+#[path = "../interface/fothwen.rs"]
+#[allow(dead_code)]
+mod fothwen;
 
-extern "C" {
-    fn fothwen_allocate(
-        mode: u64, minutes: u64, allowance: u64,
-        watts: *const u64, watts_len: usize, fuels: *const u64, fuels_len: usize,
-        energies: *const u64, energies_len: usize, limits: *const u64, limits_len: usize,
-        table: *mut u64, table_len: usize, spare: *mut u64, spare_len: usize,
-    ) -> u64;
-}
+use std::time::Instant;
 
 struct Plan { name: &'static str, minutes: u64, allowance: u64, watts: Vec<u64>, fuels: Vec<u64>, energies: Vec<u64>, limits: Vec<u64> }
 
@@ -19,12 +14,11 @@ struct Answer { word: u64, minutes: u64, tries: u64, table: Vec<u64> }
 fn proved(mode: u64, p: &Plan) -> Answer {
     let mut table = vec![7u64; p.watts.len() * p.energies.len()];
     let mut spare = vec![8u64; p.watts.len()];
-    let r = unsafe {
-        fothwen_allocate(mode, p.minutes, p.allowance, p.watts.as_ptr(), p.watts.len(), p.fuels.as_ptr(), p.fuels.len(),
-            p.energies.as_ptr(), p.energies.len(), p.limits.as_ptr(), p.limits.len(),
-            table.as_mut_ptr(), table.len(), spare.as_mut_ptr(), spare.len())
+    let plan = fothwen::Plan {
+        mode, minutes: p.minutes, allowance: p.allowance, watts: &p.watts, fuels: &p.fuels, energies: &p.energies, limits: &p.limits,
     };
-    Answer { word: r % 4, minutes: r / 4 % 16384, tries: r / 4 / 16384, table }
+    let answer = fothwen::allocate(&plan, &mut table, &mut spare).expect("an accepted plan");
+    Answer { word: answer.outcome as u64, minutes: answer.minutes, tries: answer.tries, table }
 }
 
 mod plain {

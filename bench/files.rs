@@ -1,6 +1,9 @@
 // Time per call with a file, read, planned and printed, of the proved planner beside the plain reference, in one process and in turns. What
 // is lent is not cleared before a call.
 
+#[path = "../interface/fothwen.rs"]
+#[allow(dead_code)]
+mod fothwen;
 #[path = "../tests/reference.rs"]
 mod reference;
 #[path = "../tests/proved.rs"]

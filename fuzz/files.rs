@@ -1,40 +1,14 @@
-// Feeds random files, valid and damaged, to the proved call and to the reference, and compares the answers and everything lent: the tables,
-// the output, and a margin around each that nobody may touch. With a program it feeds each file to that as well and compares what it prints.
+// Random files, valid and damaged, to the call with a file; with a program each file goes to that as well, and what it prints is compared.
 
-#[path = "../tests/reference.rs"]
-mod reference;
-#[path = "../tests/proved.rs"]
-mod proved;
-
-use reference::{Answer, PRINT_BYTES, SPARE_NUMBERS, TABLE_NUMBERS};
+use super::calls::{Counts, Lengths, Lent};
+use super::plans::{engine_numbers, heading, shape, Shape};
+use super::proved;
+use super::random::Random;
+use super::reference::{self, Answer, PRINT_BYTES, SPARE_NUMBERS, TABLE_NUMBERS};
 use std::io::{ErrorKind, Write};
 use std::process::{Command, Stdio};
-use std::str::FromStr;
 
 const FILE_BYTES: usize = 32_768;
-
-/// Splitmix64.
-struct Random(u64);
-
-impl Random {
-    fn next(&mut self) -> u64 {
-        self.0 = self.0.wrapping_add(0x9E37_79B9_7F4A_7C15);
-        let mut z = self.0;
-        z = (z ^ (z >> 30)).wrapping_mul(0xBF58_476D_1CE4_E5B9);
-        z = (z ^ (z >> 27)).wrapping_mul(0x94D0_49BB_1331_11EB);
-        z ^ (z >> 31)
-    }
-
-    fn below(&mut self, bound: u64) -> u64 { self.next() % bound }
-
-    fn between(&mut self, low: u64, high: u64) -> u64 { low + self.below(high - low + 1) }
-
-    fn place(&mut self, length: usize) -> usize { self.below(length as u64) as usize }
-
-    fn percent(&mut self, share: u64) -> bool { self.below(100) < share }
-
-    fn pick<T: Clone>(&mut self, from: &[T]) -> T { from[self.place(from.len())].clone() }
-}
 
 // Files
 
@@ -45,22 +19,13 @@ fn record(kind: &str, name: Vec<u8>, first: u64, second: u64) -> Record {
     vec![kind.into(), name, first.to_string().into(), second.to_string().into()]
 }
 
+fn mode(shortest: bool) -> Vec<u8> {
+    if shortest { "shortest".into() } else { "fixed".into() }
+}
+
 fn plan_record(random: &mut Random) -> Record {
-    let mode = if random.percent(30) { "shortest" } else { "fixed" };
-    let minutes = match random.below(10) {
-        0 => 1,
-        1 => random.between(2, 59),
-        2 => 10_080,
-        3 | 4 => random.between(61, 10_080),
-        _ => 60,
-    };
-    let tries = match random.below(4) {
-        0 => random.below(3),
-        1 => random.below(40),
-        2 => random.below(400),
-        _ => random.below(3_000),
-    };
-    record("plan", mode.into(), minutes, tries)
+    let (shortest, minutes, allowance) = heading(random);
+    record("plan", mode(shortest), minutes, allowance)
 }
 
 /// A name that none of `used` is: short and plain, or of any bytes a name may have, quotes and commas among them often.
@@ -79,77 +44,11 @@ fn fresh_name(random: &mut Random, used: &mut Vec<Vec<u8>>) -> Vec<u8> {
     }
 }
 
-/// Watts and fuel that give about this capacity, by either bound, and exactly it where the minutes are 60.
-fn engine_numbers(random: &mut Random, capacity: u64, minutes: u64) -> (u64, u64) {
-    let watts = ((capacity * 60 + minutes - 1) / minutes).min(5_000_000);
-    match random.below(4) {
-        0 => ((watts + random.below(500)).min(5_000_000), capacity),
-        1 => (watts, capacity + random.below(3)),
-        _ => (watts, 1_000_000_000),
-    }
-}
-
-/// Capacities of one scale, often equal to each other and sometimes 0, so that ties and exact fits are common.
-fn capacities(random: &mut Random, count: u64) -> Vec<u64> {
-    let scale = random.pick(&[3, 10, 10, 100, 5_000, 4_000_000]);
-    let even = random.percent(40);
-    let same = random.between(1, scale);
-    let zeros = random.pick(&[0, 0, 10, 30]);
-    (0..count).map(|_| if random.percent(zeros) { 0 } else if even { same } else { random.between(1, scale) }).collect()
-}
-
-/// Energies whose sum is about a random share of the capacities' sum, with limits of one kind or mixed.
-fn demands(random: &mut Random, count: u64, total: u64) -> Vec<(u64, u64)> {
-    let share = random.pick(&[40, 70, 85, 95, 100, 105]);
-    let most = (total * share / 50 / count.max(1)).clamp(1, 1_000_000_000);
-    let even = random.percent(30);
-    let highest = random.pick(&[1, 2, 2, 3, 4, 12]);
-    (0..count).map(|_| {
-        let energy = if even { (most / 2).max(1) } else { random.between(1, most) };
-        (energy, random.between(1, highest))
-    }).collect()
-}
-
-/// Energies cut out of the capacities themselves: a tight plan that serves, and that a search seldom finds at once.
-fn tight_demands(random: &mut Random, capacities: &[u64]) -> Vec<(u64, u64)> {
-    let mut demands: Vec<(u64, u64)> = Vec::new();
-    for capacity in capacities {
-        let mut left = *capacity;
-        let parts = random.between(1, 4);
-        for part in (0..parts).rev() {
-            let piece = if part == 0 { left } else { random.below(left + 1) };
-            left -= piece;
-            match demands.last_mut() {
-                // The first piece of an engine may go to a delivery of the engine before it.
-                Some(last) if part + 1 == parts && piece > 0 && random.percent(30) => *last = (last.0 + piece, last.1 + 1),
-                _ if piece > 0 => demands.push((piece, 1)),
-                _ => {}
-            }
-        }
-    }
-    shuffle(random, &mut demands);
-    demands
-}
-
-fn shuffle<T>(random: &mut Random, list: &mut [T]) {
-    for last in (1..list.len()).rev() {
-        list.swap(last, random.place(last + 1));
-    }
-}
-
 /// A file that is accepted: a plan, then engines and deliveries in any mixture.
 fn valid_records(random: &mut Random) -> Vec<Record> {
-    let plan = plan_record(random);
-    let minutes = std::str::from_utf8(&plan[2]).unwrap().parse().unwrap();
-    let engines = random.between(1, 12);
-    let deliveries = if random.percent(70) { random.below(9) } else { random.between(0, 64) };
-    let capacities = capacities(random, engines);
-    let demands = match random.below(3) {
-        0 => tight_demands(random, &capacities),
-        _ => demands(random, deliveries, capacities.iter().sum()),
-    };
+    let Shape { shortest, minutes, allowance, capacities, demands } = shape(random);
     let (mut engine_names, mut delivery_names) = (Vec::new(), Vec::new());
-    let mut records = vec![plan];
+    let mut records = vec![record("plan", mode(shortest), minutes, allowance)];
     for capacity in capacities {
         let (watts, fuel) = engine_numbers(random, capacity, minutes);
         records.push(record("engine", fresh_name(random, &mut engine_names), watts, fuel));
@@ -158,7 +57,7 @@ fn valid_records(random: &mut Random) -> Vec<Record> {
         records.push(record("delivery", fresh_name(random, &mut delivery_names), energy, limit));
     }
     if random.percent(50) {
-        shuffle(random, &mut records[1..]);
+        random.shuffle(&mut records[1..]);
     }
     records
 }
@@ -341,28 +240,6 @@ fn random_file(random: &mut Random) -> Vec<u8> {
 
 // Calls
 
-/// What is lent, inside a margin on both sides; each number and byte holds a value of its own, another in each case.
-#[derive(Clone, PartialEq)]
-struct Lent { table: Vec<u64>, spare: Vec<u64>, output: Vec<u8> }
-
-const MARGIN: usize = 16;
-
-struct Lengths { table: usize, spare: usize, output: usize }
-
-impl Lent {
-    fn new(lengths: &Lengths, salt: u64) -> Lent {
-        let numbers = |length: usize| (0..(length + 2 * MARGIN) as u64).map(|k| salt.rotate_left(k as u32 % 64) ^ k).collect();
-        let bytes = (0..lengths.output + 2 * MARGIN).map(|k| (salt >> (k % 57)) as u8 ^ k as u8).collect();
-        Lent { table: numbers(lengths.table), spare: numbers(lengths.spare), output: bytes }
-    }
-
-    fn call(&mut self, lengths: &Lengths, file: &[u8], plan_file: fn(&[u8], &mut [u64], &mut [u64], &mut [u8]) -> Answer) -> Answer {
-        let within = |length: usize| MARGIN..MARGIN + length;
-        let (table, spare) = (&mut self.table[within(lengths.table)], &mut self.spare[within(lengths.spare)]);
-        plan_file(file, table, spare, &mut self.output[within(lengths.output)])
-    }
-}
-
 /// Lengths to lend for a file with this answer: mostly right, often just enough output or one byte less.
 fn lengths(random: &mut Random, answer: Answer) -> Lengths {
     let length = match answer {
@@ -382,57 +259,36 @@ fn lengths(random: &mut Random, answer: Answer) -> Lengths {
     lengths
 }
 
-/// Answers by mode and word, those whose print just fitted, and refusals by number.
-#[derive(Default)]
-struct Counts { answers: [[u64; 3]; 2], fitted: u64, refusals: [u64; 10] }
-
-impl Counts {
-    fn add(&mut self, answer: Answer, file: &[u8], lengths: &Lengths) {
-        match answer {
-            Answer::Refused { number, .. } => self.refusals[number as usize] += 1,
-            Answer::Answered { word, length, .. } => {
-                // The first 16 bytes of an accepted file are of its plan record.
-                let shortest = file.windows(8).take(9).any(|part| part == b"shortest");
-                self.answers[usize::from(shortest)][word as usize] += 1;
-                self.fitted += u64::from(length == lengths.output);
-            }
-        }
-    }
-
-    fn print(&self) {
-        for (mode, answers) in ["fixed", "shortest"].iter().zip(&self.answers) {
-            println!("{mode}: found {}, none {}, stopped {}", answers[0], answers[1], answers[2]);
-        }
-        println!("answers whose print filled the lent output exactly: {}", self.fitted);
-        for number in 1..=9 {
-            println!("refused {number}: {}", self.refusals[number]);
-        }
-    }
-}
-
 /// One file to both; an account of the difference where there is one.
-fn compare(seed: u64, case: u64, counts: &mut Counts) -> Result<(), String> {
-    let mut random = Random(Random(seed).next().wrapping_add(case));
-    let file = random_file(&mut random);
+pub fn compare(random: &mut Random, counts: &mut Counts) -> Result<(), String> {
+    let file = random_file(random);
+    let run = |lent: &mut Lent, plan_file: fn(&[u8], &mut [u64], &mut [u64], &mut [u8]) -> Answer| {
+        let (table, spare, output) = lent.parts();
+        plan_file(&file, table, spare, output)
+    };
     let enough = Lengths { table: TABLE_NUMBERS, spare: SPARE_NUMBERS, output: PRINT_BYTES };
-    let answer = Lent::new(&enough, 0).call(&enough, &file, reference::plan_file);
-    let lengths = lengths(&mut random, answer);
+    let answer = run(&mut Lent::new(&enough, 0), reference::plan_file);
+    let lengths = lengths(random, answer);
     let mut ours = Lent::new(&lengths, random.next());
     let mut theirs = ours.clone();
-    let proved = ours.call(&lengths, &file, proved::plan_file);
-    let expected = theirs.call(&lengths, &file, reference::plan_file);
+    let proved = run(&mut ours, proved::plan_file);
+    let expected = run(&mut theirs, reference::plan_file);
     if proved == expected && ours == theirs {
-        counts.add(expected, &file, &lengths);
+        // The first 16 bytes of an accepted file are of its plan record.
+        counts.add_answer(expected, file.windows(8).take(9).any(|part| part == b"shortest"));
+        if matches!(expected, Answer::Answered { length, .. } if length == lengths.output) {
+            counts.add("print just fits".into());
+        }
         return Ok(());
     }
     let Lengths { table, spare, output } = lengths;
-    Err(format!("seed {seed}, case {case}: a difference\nfile of {} bytes: {}\nlent: table {table}, spare {spare}, output {output}\n\
-        proved:    {proved:?}\nreference: {expected:?}\n{}", file.len(), file.escape_ascii(), differences(&ours, &theirs)))
+    Err(format!("file of {} bytes: {}\nlent: table {table}, spare {spare}, output {output}\nproved:    {proved:?}\nreference: {expected:?}\n{}",
+        file.len(), file.escape_ascii(), ours.differences(&theirs)))
 }
 
 /// One file through a pipe to the program, whose print is judged alone; what it does not read of a long file is not written.
-fn compare_print(seed: u64, case: u64, program: &str) -> Result<(), String> {
-    let file = random_file(&mut Random(Random(seed).next().wrapping_add(case)));
+pub fn compare_print(random: &mut Random, program: &str) -> Result<(), String> {
+    let file = random_file(random);
     let mut child = Command::new(program).stdin(Stdio::piped()).stdout(Stdio::piped()).stderr(Stdio::piped()).spawn().expect("the program");
     match child.stdin.take().unwrap().write_all(&file) {
         Err(error) if error.kind() == ErrorKind::BrokenPipe && file.len() > FILE_BYTES => {}
@@ -443,42 +299,6 @@ fn compare_print(seed: u64, case: u64, program: &str) -> Result<(), String> {
     if printed.stdout == expected && printed.stderr.is_empty() && printed.status.success() {
         return Ok(());
     }
-    Err(format!("seed {seed}, case {case}: the program prints otherwise\nfile of {} bytes: {}\nprogram:   {}, {}\nreference: {}\n",
+    Err(format!("the program prints otherwise\nfile of {} bytes: {}\nprogram:   {}, {}\nreference: {}\n",
         file.len(), file.escape_ascii(), printed.status, printed.stdout.escape_ascii(), expected.escape_ascii()))
-}
-
-/// Where the lent numbers and bytes first differ, as places in what was lent; a negative place is in the margin before it.
-fn differences(ours: &Lent, theirs: &Lent) -> String {
-    fn first<T: PartialEq + std::fmt::Debug>(what: &str, ours: &[T], theirs: &[T]) -> String {
-        match (0..ours.len()).find(|k| ours[*k] != theirs[*k]) {
-            Some(k) => format!("{what} at {}: proved {:?}, reference {:?}\n", k as i64 - MARGIN as i64, ours[k], theirs[k]),
-            None => format!("{what}: equal\n"),
-        }
-    }
-    first("table", &ours.table, &theirs.table) + &first("spare", &ours.spare, &theirs.spare) + &first("output", &ours.output, &theirs.output)
-}
-
-/// What stands behind an option, where it is given.
-fn option<T: FromStr>(arguments: &[String], name: &str) -> Option<T> {
-    let place = arguments.iter().position(|argument| argument == name)?;
-    Some(arguments.get(place + 1).and_then(|value| value.parse().ok()).expect("a value behind the option"))
-}
-
-fn main() {
-    let arguments: Vec<String> = std::env::args().skip(1).collect();
-    let seed = option(&arguments, "--seed").unwrap_or(1);
-    let count = option(&arguments, "--count").unwrap_or(400_000);
-    let cases = option(&arguments, "--case").map_or(0..count, |case| case..case + 1);
-    let program: Option<String> = option(&arguments, "--program");
-    println!("seed {seed}, {} files", cases.end - cases.start);
-    let mut counts = Counts::default();
-    for case in cases {
-        let printed = program.as_ref().map_or(Ok(()), |program| compare_print(seed, case, program));
-        if let Err(account) = compare(seed, case, &mut counts).and(printed) {
-            print!("{account}");
-            std::process::exit(1);
-        }
-    }
-    counts.print();
-    println!("no difference");
 }

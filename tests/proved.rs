@@ -1,42 +1,53 @@
-// The proved call with a file, by its C symbol, in the form of `reference::plan_file`. With `--cfg stub` the reference stands in for it, and
-// with `--cfg fault` as well that stand-in miscounts some searches, so that a driver can show that it notices.
+// The proved calls, by the wrapper in interface/fothwen.rs, in the form of the reference. With `--cfg fault="NAME"` a fault is planted between
+// them, so that a driver can show that it notices.
 
-use super::reference::Answer;
+use super::fothwen::{self, Answer as Planned, Outcome, Plan, Refusal};
+use super::reference::{Answer, Lookup, Numbers};
 
-#[cfg(not(stub))]
-extern "C" {
-    fn fothwen_plan_file(
-        file: *const u8, file_len: usize, table: *mut u64, table_len: usize,
-        spare: *mut u64, spare_len: usize, output: *mut u8, output_len: usize,
-    ) -> u64;
-}
-
-/// The result's 64 bits are all in the answer, so equal answers are equal results. A refusal with a print length is no refusal of the page.
-pub fn plan_file(file: &[u8], table: &mut [u64], spare: &mut [u64], output: &mut [u8]) -> Answer {
-    let result = unsafe {
-        fothwen_plan_file(file.as_ptr(), file.len(), table.as_mut_ptr(), table.len(),
-            spare.as_mut_ptr(), spare.len(), output.as_mut_ptr(), output.len())
-    };
-    let (word, first, second, length) = (result % 4, result / 4 % (1 << 14), result / (1 << 16) % (1 << 30), (result >> 46) as usize);
-    if word == 3 && length == 0 {
-        return Answer::Refused { number: first, record: second };
-    }
-    Answer::Answered { word, minutes: first, tries: second, length }
-}
-
-#[cfg(stub)]
-unsafe fn fothwen_plan_file(
-    file: *const u8, file_len: usize, table: *mut u64, table_len: usize,
-    spare: *mut u64, spare_len: usize, output: *mut u8, output_len: usize,
-) -> u64 {
-    use std::slice::{from_raw_parts, from_raw_parts_mut};
-    let answer = super::reference::plan_file(from_raw_parts(file, file_len), from_raw_parts_mut(table, table_len),
-        from_raw_parts_mut(spare, spare_len), from_raw_parts_mut(output, output_len));
-    match answer {
-        Answer::Refused { number, record } => 3 + number * 4 + (record << 16),
-        Answer::Answered { word, minutes, tries, length } => {
-            let fault = u64::from(cfg!(fault) && tries == 7);
-            word + minutes * 4 + ((tries + fault) << 16) + ((length as u64) << 46)
+fn answer(result: Result<(Planned, usize), Refusal>) -> Answer {
+    match result {
+        Err(Refusal { number, place }) => Answer::Refused { number, record: place },
+        Ok((Planned { outcome, minutes, tries }, length)) => {
+            let word = match outcome {
+                Outcome::Found => 0,
+                Outcome::None => 1,
+                Outcome::Stopped => 2,
+            };
+            let tries = if cfg!(fault = "tries") && tries == 7 { 8 } else { tries };
+            Answer::Answered { word, minutes, tries, length }
         }
+    }
+}
+
+pub fn plan_file(file: &[u8], table: &mut [u64], spare: &mut [u64], output: &mut [u8]) -> Answer {
+    let answer = answer(fothwen::plan_file(file, table, spare, output));
+    match (answer, output) {
+        (Answer::Answered { length, .. }, output) if cfg!(fault = "behind the print") && length < output.len() => output[length] = 0,
+        _ => {}
+    }
+    answer
+}
+
+#[allow(dead_code)]
+pub fn allocate(numbers: &Numbers, table: &mut [u64], spare: &mut [u64]) -> Answer {
+    let Numbers { mode, minutes, allowance, watts, fuels, energies, limits } = *numbers;
+    let mode = if cfg!(fault = "third mode") { mode.min(1) } else { mode };
+    let (energies, limits) = if cfg!(fault = "exchanged") { (limits, energies) } else { (energies, limits) };
+    let answer = answer(fothwen::allocate(&Plan { mode, minutes, allowance, watts, fuels, energies, limits }, table, spare).map(|answer| (answer, 0)));
+    match (answer, spare.last_mut()) {
+        (Answer::Refused { .. }, Some(last)) if cfg!(fault = "written when refused") => *last = 0,
+        _ => {}
+    }
+    answer
+}
+
+#[allow(dead_code)]
+pub fn spare_lookup(spare: &[u64], amount: u64) -> Lookup {
+    match fothwen::spare_lookup(spare, amount) {
+        Err(Refusal { number, place }) => Lookup::Refused { number, record: place },
+        Ok(Some(_)) if cfg!(fault = "engine") => Lookup::Engine(0),
+        Ok(Some(_)) if cfg!(fault = "none") && spare.len() == 12 => Lookup::Nowhere,
+        Ok(Some(engine)) => Lookup::Engine(engine),
+        Ok(None) => Lookup::Nowhere,
     }
 }

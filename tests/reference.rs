@@ -1,5 +1,5 @@
-// Document 01 in plain Rust, written from the page alone: what the call with a file answers and what the program prints. The random files
-// compare the proved planner with it, and the benchmark times both.
+// Document 01 in plain Rust, written from the page alone: what the call with a file, the allocation on numbers and the spare lookup answer,
+// and what the program prints. The random inputs compare the proved planner with it, and the benchmark times both.
 
 const FILE_BYTES: usize = 32_768;
 const ENGINES: usize = 12;
@@ -15,7 +15,7 @@ const STOPPED: u64 = 2;
 
 #[derive(Clone, Copy, PartialEq, Eq, Debug)]
 pub enum Answer {
-    /// The word is 0 for found, 1 for none, 2 for stopped; the length is the print's.
+    /// The word is 0 for found, 1 for none, 2 for stopped; the length is the print's, 0 on numbers.
     Answered { word: u64, minutes: u64, tries: u64, length: usize },
     Refused { number: u64, record: u64 },
 }
@@ -40,13 +40,89 @@ pub fn plan_file(file: &[u8], table: &mut [u64], spare: &mut [u64], output: &mut
         output[at..at + bytes.len()].copy_from_slice(bytes);
         at += bytes.len();
     });
-    if search.word == FOUND {
-        for (row, pieces) in table.chunks_mut(search.engines).zip(&search.pieces[..search.deliveries]) {
-            row.copy_from_slice(&pieces[..search.engines]);
-        }
-        spare[..search.engines].copy_from_slice(&search.remaining[..search.engines]);
-    }
+    search.write(table, spare);
     Answer::Answered { word: search.word, minutes: search.minutes, tries: search.tries, length }
+}
+
+/// A plan on numbers, with the mode as a number: 0 is fixed, 1 shortest.
+pub struct Numbers<'a> {
+    pub mode: u64,
+    pub minutes: u64,
+    pub allowance: u64,
+    pub watts: &'a [u64],
+    pub fuels: &'a [u64],
+    pub energies: &'a [u64],
+    pub limits: &'a [u64],
+}
+
+/// The allocation on numbers.
+#[allow(dead_code)]
+pub fn allocate(numbers: &Numbers, table: &mut [u64], spare: &mut [u64]) -> Answer {
+    if let Some((number, record)) = numbers.refusal(table.len(), spare.len()) {
+        return Answer::Refused { number, record };
+    }
+    let mut plan = Plan::new();
+    plan.shortest = numbers.mode == 1;
+    plan.minutes = numbers.minutes;
+    plan.allowance = numbers.allowance;
+    plan.engines = numbers.watts.len();
+    plan.watts[..plan.engines].copy_from_slice(numbers.watts);
+    plan.fuels[..plan.engines].copy_from_slice(numbers.fuels);
+    plan.deliveries = numbers.energies.len();
+    plan.energies[..plan.deliveries].copy_from_slice(numbers.energies);
+    plan.limits[..plan.deliveries].copy_from_slice(numbers.limits);
+    let search = solve(&plan);
+    search.write(table, spare);
+    Answer::Answered { word: search.word, minutes: search.minutes, tries: search.tries, length: 0 }
+}
+
+impl Numbers<'_> {
+    /// 3, 8, 7, 9, then 6 over the plan's record, the engines' and the deliveries'; MODE stands in the plan's.
+    fn refusal(&self, table: usize, spare: usize) -> Option<(u64, u64)> {
+        let (engines, deliveries) = (self.watts.len(), self.energies.len());
+        if self.fuels.len() != engines || self.limits.len() != deliveries {
+            return Some((3, 0));
+        }
+        if engines == 0 {
+            return Some((8, 0));
+        }
+        if engines > ENGINES || deliveries > DELIVERIES {
+            return Some((7, 0));
+        }
+        if table != deliveries * engines || spare != engines {
+            return Some((9, 0));
+        }
+        let plan = self.mode <= 1 && (1..=10_080).contains(&self.minutes) && self.allowance <= 1_000_000_000;
+        let engine = |i: usize| self.watts[i] <= 5_000_000 && self.fuels[i] <= 1_000_000_000;
+        let delivery = |p: usize| (1..=1_000_000_000).contains(&self.energies[p]) && (1..=12).contains(&self.limits[p]);
+        let sound = std::iter::once(plan).chain((0..engines).map(engine)).chain((0..deliveries).map(delivery));
+        sound.zip(1..).find(|(sound, _)| !sound).map(|(_, record)| (6, record))
+    }
+}
+
+#[derive(Clone, Copy, PartialEq, Eq, Debug)]
+#[allow(dead_code)]
+pub enum Lookup {
+    /// Counted from 0.
+    Engine(usize),
+    Nowhere,
+    Refused { number: u64, record: u64 },
+}
+
+/// Whether the spare lookup may answer so: which of several engines it names is open.
+#[allow(dead_code)]
+pub fn permits(spare: &[u64], amount: u64, answer: Lookup) -> bool {
+    let refused = match spare.len() {
+        0 => 8,
+        count if count > ENGINES => 7,
+        _ if amount < 1 || amount > 1_000_000_000 => 6,
+        _ => 0,
+    };
+    match answer {
+        Lookup::Refused { number, record } => number == refused && refused > 0 && record == 0,
+        Lookup::Engine(i) => refused == 0 && i < spare.len() && spare[i] >= amount,
+        Lookup::Nowhere => refused == 0 && spare.iter().all(|most| *most < amount),
+    }
 }
 
 /// What the program prints for its standard input.
@@ -130,11 +206,7 @@ fn read_plan(file: &[u8]) -> Result<Plan, (u64, u64)> {
     if file.is_empty() || file.len() > FILE_BYTES {
         return Err((1, 0));
     }
-    let mut plan = Plan {
-        shortest: false, minutes: 0, allowance: 0,
-        engines: 0, engine_names: [[0; 16]; ENGINES], watts: [0; ENGINES], fuels: [0; ENGINES],
-        deliveries: 0, delivery_names: [[0; 16]; DELIVERIES], energies: [0; DELIVERIES], limits: [0; DELIVERIES],
-    };
+    let mut plan = Plan::new();
     let (mut start, mut count) = (0, 0);
     while start < file.len() {
         count += 1;
@@ -144,6 +216,14 @@ fn read_plan(file: &[u8]) -> Result<Plan, (u64, u64)> {
 }
 
 impl Plan {
+    fn new() -> Plan {
+        Plan {
+            shortest: false, minutes: 0, allowance: 0,
+            engines: 0, engine_names: [[0; 16]; ENGINES], watts: [0; ENGINES], fuels: [0; ENGINES],
+            deliveries: 0, delivery_names: [[0; 16]; DELIVERIES], energies: [0; DELIVERIES], limits: [0; DELIVERIES],
+        }
+    }
+
     /// Takes the record at `start` into the plan and gives the place of the next one, or the refusal's number.
     fn add_record(&mut self, file: &[u8], start: usize, first: bool) -> Result<usize, u64> {
         let record = read_record(file, start).ok_or(2u64)?;
@@ -268,6 +348,17 @@ fn search_for(plan: &Plan, minutes: u64) -> Search {
 }
 
 impl Search {
+    /// Found fills from the front of what is lent: a row of pieces for each delivery, and each engine's spare.
+    fn write(&self, table: &mut [u64], spare: &mut [u64]) {
+        if self.word != FOUND {
+            return;
+        }
+        for (row, pieces) in table.chunks_mut(self.engines).zip(&self.pieces[..self.deliveries]) {
+            row.copy_from_slice(&pieces[..self.engines]);
+        }
+        spare[..self.engines].copy_from_slice(&self.remaining[..self.engines]);
+    }
+
     /// B, C and E; each of the three steps returns the word it ends in, and undoes what it did where that is none.
     fn choose(&mut self) -> u64 {
         let p = match self.bulkiest() {

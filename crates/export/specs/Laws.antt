@@ -5,7 +5,6 @@ use mathlib.Core.Bool.{Bool, true, false, cond}
 use mathlib.Core.List.{List, [], _∷_}
 use mathlib.Core.Option.{Option, none, some}
 use Prim.Native.Nat.{ℕ, _+_}
-use lib.Dec.{eqb}
 use lib.ListN.{length}
 use Rattle.planning.specs.declared.Allocation.the-variants.{Refused}
 use Rattle.planning.specs.declared.Fault.{Fault}
@@ -57,11 +56,11 @@ only-6 none h = refl
 only-6 (some refusal) h = rw (h) refl
 
 -- a check of another number refuses with a mode and without
-other-check : (t : Bool) (fault : Fault) → eqb (faultNumber fault) 6 ≡ false
+other-check : (t : Bool) (fault : Fault) → withoutMode (some (record { fault = fault; place = 0 })) ≡ record { fault = fault; place = 0 }
     → (a b : Option Refusal) → a ≡ some (withoutMode b) → (check t fault 0 then a) ≡ some (withoutMode (check t fault 0 then b))
-unfolding check _then_ withoutMode
+unfolding check _then_
 other-check true fault h a b e = e
-other-check false fault h a b e = rw (h) refl
+other-check false fault h a b e = ap some (sym h)
 
 -- the same call with other minutes
 abbrev pub inMinutes : (minutes : ℕ) → Call → Call
@@ -84,7 +83,7 @@ zero-minutes later = refl
 
 -- with 0 minutes a call is refused as it is without a mode
 no-minutes : (call : Call) → refusalOf (inMinutes 0 call) ≡ some (withoutMode (refusalOf call))
-unfolding refusalOf faultNumber
+unfolding refusalOf withoutMode faultNumber
 no-minutes call =
     let all-by-6 =
     then-by-6 _ _ (check-by-6 (within 1 mostMinutes (call .minutes)) 1)

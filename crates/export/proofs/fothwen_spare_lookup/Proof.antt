@@ -5,7 +5,7 @@ use mathlib.Core.List.{List}
 use Prim.Native.Nat.{ℕ}
 use borrow.Author.Needs.{needs}
 use Rattle.planning.specs.declared.Lookup.{Lookup}
-use Rattle.planning.specs.declared.Lookup.the-variants.{Refused}
+use Rattle.planning.specs.declared.Lookup.the-variants.{Engine, Nowhere, Refused}
 use Rattle.planning.specs.declared.Refusal.{Refusal}
 use Rattle.planning.specs.Refusals.{faultNumber}
 use Rattle.planning.specs.SpareLookup.{Permitted}
@@ -28,20 +28,28 @@ enum-known-found-2 c = search needs
 number-of-requires : tie.Need-number-of-requires
 number-of-requires c κs = search needs
 
-returns : tie.Need-returns
+-- the reply of each answer
+named : (spare : List ℕ) (amount i : ℕ) (answer : Lookup) → answer ≡ Engine i → Permitted spare amount answer
+    → PermittedReply spare amount (record { word = 0; engine = i; number = 0; place = 0 })
 unfolding PermittedReply lookupReplyOf
-returns c = (_, refl, rw (c .before .found .given .1) at (c .before .before .before .spare-lookup .ensures))
+named spare amount i answer e permitted = (Engine i, refl, rw (e) at permitted)
 
-returns-2 : tie.Need-returns-2
+none : (spare : List ℕ) (amount : ℕ) (answer : Lookup) → answer ≡ Nowhere → Permitted spare amount answer
+    → PermittedReply spare amount (record { word = 1; engine = 0; number = 0; place = 0 })
 unfolding PermittedReply lookupReplyOf
-returns-2 c = (_, refl, rw (c .enum-told .given .1) at (c .before .before .spare-lookup .ensures))
+none spare amount answer e permitted = (Nowhere, refl, rw (e) at permitted)
 
--- a refusal's reply, with the number that `number_of` gives
 refused : (spare : List ℕ) (amount number : ℕ) (answer : Lookup) (refusal : Refusal)
     → answer ≡ Refused refusal → number ≡ faultNumber (refusal .fault) → Permitted spare amount answer
     → PermittedReply spare amount (record { word = 3; engine = 0; number = number; place = refusal .place })
 unfolding PermittedReply lookupReplyOf
 refused spare amount number answer refusal e h permitted = (Refused refusal, rw (h) refl, rw (e) at permitted)
+
+returns : tie.Need-returns
+returns c = named _ _ _ _ (c .before .found .given .1) (c .before .before .before .spare-lookup .ensures)
+
+returns-2 : tie.Need-returns-2
+returns-2 c = none _ _ _ (c .enum-told .given .1) (c .before .before .spare-lookup .ensures)
 
 returns-3 : tie.Need-returns-3
 returns-3 c =

@@ -1,0 +1,79 @@
+/* Document 01's example planned by file and on numbers, a lookup of spare, and calls that are turned down. */
+#include <stdio.h>
+#include "fothwen.h"
+
+static const char *const words[] = {"found", "none", "stopped"};
+
+static void show(const char *call, fothwen_plan_reply reply) {
+    if (reply.word == FOTHWEN_REFUSED)
+        printf("%s: refused by %d at place %d\n", call, (int)reply.number, (int)reply.place);
+    else
+        printf("%s: %s, %d minutes, %d tries\n", call, words[reply.word], (int)reply.minutes, (int)reply.tries);
+}
+
+static void show_lookup(int amount, fothwen_lookup_reply reply) {
+    printf("%d Wh to spare: ", amount);
+    if (reply.word == FOTHWEN_REFUSED)
+        printf("refused by %d at place %d\n", (int)reply.number, (int)reply.place);
+    else if (reply.word == FOTHWEN_NONE)
+        printf("none\n");
+    else
+        printf("engine %d\n", (int)reply.engine);
+}
+
+static void by_file(void) {
+    static const char file[] =
+        "plan,fixed,60,100\r\n"
+        "engine,E1,3000,1000000000\r\n"
+        "engine,E2,5000,1000000000\r\n"
+        "delivery,D1,5000,2\r\n"
+        "delivery,D2,3000,2\r\n";
+    const uint8_t *bytes = (const uint8_t *)file;
+    const size_t size = sizeof file - 1;
+    uint64_t table[FOTHWEN_FILE_TABLE] = {0}, spare[FOTHWEN_FILE_SPARE + 1] = {0};
+    uint8_t output[FOTHWEN_LONGEST_PRINT];
+    fothwen_plan_reply reply;
+
+    reply = fothwen_plan_file(bytes, size, table, FOTHWEN_FILE_TABLE, spare, FOTHWEN_FILE_SPARE, output, sizeof output);
+    show("by file", reply);
+    fwrite(output, 1, reply.length, stdout);
+    show("no bytes", fothwen_plan_file(NULL, 0, table, FOTHWEN_FILE_TABLE, spare, FOTHWEN_FILE_SPARE, output, sizeof output));
+    show("a table of 767", fothwen_plan_file(bytes, size, table, 767, spare, FOTHWEN_FILE_SPARE, output, sizeof output));
+    show("a spare list of 13", fothwen_plan_file(bytes, size, table, FOTHWEN_FILE_TABLE, spare, 13, output, sizeof output));
+    show("no output", fothwen_plan_file(bytes, size, table, FOTHWEN_FILE_TABLE, spare, FOTHWEN_FILE_SPARE, NULL, 0));
+}
+
+static const uint64_t watts[] = {3000, 5000}, fuels[] = {1000000000, 1000000000};
+static const uint64_t energies[] = {5000, 3000}, limits[] = {2, 2};
+
+static void on_numbers(void) {
+    uint64_t table[4] = {0}, spare[2] = {0};
+
+    show("on numbers", fothwen_allocate(FOTHWEN_FIXED, 60, 100, watts, 2, fuels, 2, energies, 2, limits, 2, table, 4, spare, 2));
+    printf("pieces %d %d, %d %d\n", (int)table[0], (int)table[1], (int)table[2], (int)table[3]);
+    show("shortest", fothwen_allocate(FOTHWEN_SHORTEST, 120, 100, watts, 2, fuels, 2, energies, 2, limits, 2, table, 4, spare, 2));
+    show("no deliveries", fothwen_allocate(FOTHWEN_SHORTEST, 120, 0, watts, 2, fuels, 2, NULL, 0, NULL, 0, NULL, 0, spare, 2));
+    show("a third mode", fothwen_allocate(2, 60, 100, watts, 2, fuels, 2, energies, 2, limits, 2, table, 4, spare, 2));
+    show("a third mode, a table of 3", fothwen_allocate(2, 60, 100, watts, 2, fuels, 2, energies, 2, limits, 2, table, 3, spare, 2));
+    show("a spare list of 1", fothwen_allocate(FOTHWEN_FIXED, 60, 100, watts, 2, fuels, 2, energies, 2, limits, 2, table, 4, spare, 1));
+    show("a fuel missing", fothwen_allocate(FOTHWEN_FIXED, 60, 100, watts, 2, fuels, 1, energies, 2, limits, 2, table, 4, spare, 2));
+}
+
+/* In 75 minutes E1 gives all its 3750 Wh, and E2 has 2000 of its 6250 to spare. */
+static void lookups(void) {
+    uint64_t table[4] = {0}, spare[2] = {0};
+
+    show("in 75 minutes", fothwen_allocate(FOTHWEN_FIXED, 75, 100, watts, 2, fuels, 2, energies, 2, limits, 2, table, 4, spare, 2));
+    printf("spare %d %d\n", (int)spare[0], (int)spare[1]);
+    show_lookup(2000, fothwen_spare_lookup(spare, 2, 2000));
+    show_lookup(2001, fothwen_spare_lookup(spare, 2, 2001));
+    show_lookup(0, fothwen_spare_lookup(spare, 2, 0));
+    show_lookup(1, fothwen_spare_lookup(NULL, 0, 1));
+}
+
+int main(void) {
+    by_file();
+    on_numbers();
+    lookups();
+    return 0;
+}
