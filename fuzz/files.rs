@@ -10,8 +10,6 @@ use std::process::{Command, Stdio};
 
 const FILE_BYTES: usize = 32_768;
 
-// Files
-
 /// A record by the values of its fields; they are quoted as the file is written.
 type Record = Vec<Vec<u8>>;
 
@@ -289,7 +287,9 @@ pub fn compare(random: &mut Random, counts: &mut Counts) -> Result<(), String> {
 /// One file through a pipe to the program, whose print is judged alone; what it does not read of a long file is not written.
 pub fn compare_print(random: &mut Random, program: &str) -> Result<(), String> {
     let file = random_file(random);
-    let mut child = Command::new(program).stdin(Stdio::piped()).stdout(Stdio::piped()).stderr(Stdio::piped()).spawn().expect("the program");
+    let mut command = Command::new(program);
+    let started = command.stdin(Stdio::piped()).stdout(Stdio::piped()).stderr(Stdio::piped()).spawn();
+    let mut child = started.map_err(|error| format!("{program} does not start: {error}\n"))?;
     match child.stdin.take().unwrap().write_all(&file) {
         Err(error) if error.kind() == ErrorKind::BrokenPipe && file.len() > FILE_BYTES => {}
         written => written.expect("a pipe to the program"),

@@ -82,6 +82,8 @@ fn run(kind: &Kind, seed: u64, cases: std::ops::Range<u64>, program: Option<&str
 }
 
 fn main() {
+    // Cargo runs it in the package's folder; a program is named from the repository's.
+    std::env::set_current_dir(concat!(env!("CARGO_MANIFEST_DIR"), "/..")).expect("the repository's folder");
     let Options { count, seed, case, only, program } = options();
     let (count, seed) = (count.unwrap_or(20_000), seed.unwrap_or(1));
     let cases = case.map_or(0..count, |case| case..case + 1);

@@ -21,9 +21,8 @@ fn answer(result: Result<(Planned, usize), Refusal>) -> Answer {
 
 pub fn plan_file(file: &[u8], table: &mut [u64], spare: &mut [u64], output: &mut [u8]) -> Answer {
     let answer = answer(fothwen::plan_file(file, table, spare, output));
-    match (answer, output) {
-        (Answer::Answered { length, .. }, output) if cfg!(fault = "behind the print") && length < output.len() => output[length] = 0,
-        _ => {}
+    if let (true, Answer::Answered { length, .. }) = (cfg!(fault = "behind the print"), answer) {
+        output[length..].fill(0);
     }
     answer
 }
@@ -33,10 +32,10 @@ pub fn allocate(numbers: &Numbers, table: &mut [u64], spare: &mut [u64]) -> Answ
     let Numbers { mode, minutes, allowance, watts, fuels, energies, limits } = *numbers;
     let mode = if cfg!(fault = "third mode") { mode.min(1) } else { mode };
     let (energies, limits) = if cfg!(fault = "exchanged") { (limits, energies) } else { (energies, limits) };
-    let answer = answer(fothwen::allocate(&Plan { mode, minutes, allowance, watts, fuels, energies, limits }, table, spare).map(|answer| (answer, 0)));
-    match (answer, spare.last_mut()) {
-        (Answer::Refused { .. }, Some(last)) if cfg!(fault = "written when refused") => *last = 0,
-        _ => {}
+    let plan = Plan { mode, minutes, allowance, watts, fuels, energies, limits };
+    let answer = answer(fothwen::allocate(&plan, table, spare).map(|answer| (answer, 0)));
+    if let (true, Answer::Refused { .. }) = (cfg!(fault = "written when refused"), answer) {
+        spare.fill(0);
     }
     answer
 }
