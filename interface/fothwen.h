@@ -3,8 +3,8 @@
  * A list is a pointer and then its length in elements. For an empty list the pointer may be NULL and is never followed; any other points to
  * that many elements. A list that is written (no `const`) overlaps no other list of its call. Nothing else is asked of a caller: a call that
  * breaks a rule of document 01 is refused by its number and place, and then nothing lent changes. No call keeps a pointer, uses the heap or
- * any state of its own, so calls may run at once on several threads. The deepest search that is known took 79 KiB of stack by file and 61 KiB
- * on numbers; give a thread 128. */
+ * any state of its own, so calls may run at once on several threads. Give a thread 128 KiB of stack: docs/BENCHMARKS.md has what the deepest
+ * search that is known took. */
 #ifndef FOTHWEN_H
 #define FOTHWEN_H
 
