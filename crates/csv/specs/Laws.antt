@@ -15,3 +15,5 @@ pub mod Writer
 pub mod Stores
 pub mod Bounds
 pub mod RoundTrip
+pub mod Reader
+pub mod FieldReads

@@ -7,6 +7,7 @@ pub mod Measures
 pub mod Records
 pub mod Spans
 pub mod Scans
+pub mod Reader
 pub mod Fields
 pub mod Writer
 pub mod Laws

@@ -8,6 +8,7 @@ use lib.Dec.{leb, eqb}
 use lib.ListN.{length, take, drop, getD}
 use Rattle.csv.specs.declared.FieldForm.{FieldForm}
 use Rattle.csv.specs.declared.FieldForm.the-variants as form
+use Rattle.csv.specs.declared.FieldRead.{FieldRead}
 use Rattle.csv.specs.declared.FieldSpan.{FieldSpan}
 use Rattle.csv.specs.declared.RecordSpan.{RecordSpan}
 use Rattle.csv.specs.declared.Undone.{Undone}
@@ -35,6 +36,36 @@ fieldFrom from (field ∷ next ∷ fields) = record { end = from + length field;
 
 unfoldable pub fieldSpan : (text : List ℕ) → (from : ℕ) → FieldSpan
 fieldSpan text from = fieldFrom from (rawFields (drop from text))
+
+-- a field that ends at a place: before a comma, before a record end, or with the file; and no field of the grammar
+unfoldable pub beforeComma : (end : ℕ) → FieldRead
+beforeComma end = record { sound = true; end = end; next = end + 1; more = true }
+
+unfoldable pub beforeRecordEnd : (end : ℕ) → FieldRead
+beforeRecordEnd end = record { sound = true; end = end; next = end + 2; more = false }
+
+unfoldable pub withFile : (end : ℕ) → FieldRead
+withFile end = record { sound = true; end = end; next = end; more = false }
+
+unfoldable pub brokenField : FieldRead
+brokenField = record { sound = false; end = 0; next = 0; more = false }
+
+-- the first raw field of a record by its value, by the fields behind it and by what stands behind the record
+unfoldable pub readBy : (value : Option (List ℕ)) → (end : ℕ) → (others : List (List ℕ)) → (behind : Option (List ℕ)) → FieldRead
+readBy none end others behind = brokenField
+readBy (some value) end (next ∷ others) behind = beforeComma end
+readBy (some value) end [] (some rest) = beforeRecordEnd end
+readBy (some value) end [] none = withFile end
+
+unfoldable pub firstRead : (valueOf : List ℕ → Option (List ℕ)) → (from : ℕ) → (raws : List (List ℕ)) → (behind : Option (List ℕ)) → FieldRead
+firstRead valueOf from [] behind = brokenField
+firstRead valueOf from (raw ∷ others) behind = readBy (valueOf raw) (from + length raw) others behind
+
+-- the field that begins at a place of a file: the first raw field of the record from there on
+unfoldable pub fieldRead : (file : List ℕ) → (from : ℕ) → FieldRead
+fieldRead file from =
+    let front = firstRecord (drop from file) in
+    firstRead fieldValue from (rawFields (front .text)) (front .behind)
 
 -- the part of a raw field between its quotes, or all of it where it does not begin with a quote or is shorter than two bytes
 unfoldable pub insideOf : List ℕ → List ℕ

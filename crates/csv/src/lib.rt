@@ -2,6 +2,7 @@
 // of what the fields mean. The definitions and their laws stand in specs/.
 mod bytes;
 mod fields;
+mod reader;
 mod records;
 mod scans;
 mod writer;
@@ -11,6 +12,7 @@ pub use fields::field_at;
 pub use fields::form_of;
 pub use fields::part_of;
 pub use fields::undo;
+pub use reader::field_read;
 pub use records::record_at;
 pub use writer::write_field;
 
@@ -34,6 +36,16 @@ pub struct RecordSpan {
 // Where a raw field ends, and whether a comma stands there and a further field behind it.
 pub struct FieldSpan {
     pub end: usize,
+    pub more: bool,
+}
+
+// A field read where it begins in a file: whether it is one of the grammar, where it ends, where what follows begins, and whether that is
+// a further field of the record, behind a comma. What follows otherwise is the next record, behind CR LF, or the end of the file. Where
+// it is no field of the grammar nothing else is told.
+pub struct FieldRead {
+    pub sound: bool,
+    pub end: usize,
+    pub next: usize,
     pub more: bool,
 }
 

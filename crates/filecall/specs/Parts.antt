@@ -7,6 +7,8 @@ use mathlib.Core.Option.{Option, none, some}
 use Prim.Native.Nat.{ℕ, zero, suc, _*_, _-_, _≤_, _<_, min}
 use lib.ListN.{length, take, drop, getD}
 use Rattle.csv.specs.Fields.{rawFields, fieldValue, fieldValues}
+use Rattle.csv.specs.Records.{firstRecord}
+use Rattle.csv.specs.Spans.{recordSpan}
 use Rattle.planning.specs.Numbers.{within}
 use Rattle.planning.specs.Search.{at}
 use Rattle.filecall.specs.declared.entry.Fields.{Fields}
@@ -52,14 +54,20 @@ tabulated (suc n) f = f 0 ∷ tabulated n (λ k. f (suc k))
 unfoldable pub nameList : (n : ℕ) → (names sizes : List ℕ) → List (List ℕ)
 nameList n names sizes = tabulated n (λ k. take (at sizes k) (drop (16 * k) names))
 
--- where the fields of a record's text stand
+-- a record's text that keeps the grammar, and where its fields stand
 pub record IsCut (text : List ℕ) (r : Fields) : Type 0 where
   pub starts : length (r .start) ≡ 4
   pub ends : length (r .end) ≡ 4
-  -- the text is a record of the grammar exactly where it is sound
-  pub broken : r .sound ≡ false → fieldValues text ≡ none
-  pub sound : r .sound ≡ true → (values : List (List ℕ)) × (fieldValues text ≡ some values)
+  pub values : List (List ℕ)
+  pub valued : fieldValues text ≡ some values
   pub count : r .count ≡ min 5 (length (rawFields text))
   pub inside : (j : ℕ) → j < r .count → j < 4 → (at (r .start) j ≤ at (r .end) j) × (at (r .end) j ≤ length text)
   pub field : (j : ℕ) → j < r .count → j < 4
       → take (at (r .end) j - at (r .start) j) (drop (at (r .start) j) text) ≡ getD (rawFields text) j []
+
+-- the record that begins at a place of a file: it breaks the grammar, or is cut and ends where its span does
+pub record CutAt (file : List ℕ) (from : ℕ) (r : Fields) : Type 0 where
+  pub broken : r .sound ≡ false → fieldValues (firstRecord (drop from file) .text) ≡ none
+  pub cut : r .sound ≡ true → IsCut (firstRecord (drop from file) .text) r
+  pub stop : r .sound ≡ true → r .stop ≡ recordSpan file from .end
+  pub next : r .sound ≡ true → r .next ≡ recordSpan file from .next

@@ -2,17 +2,21 @@
 -- Assumes nothing.
 use mathlib.Core.Path.{_≡_}
 use mathlib.Core.List.{List}
-use Prim.Native.Nat.{ℕ, _+_}
+use Prim.Native.Nat.{ℕ, _+_, _≤_}
 use lib.Dec.{leb}
-use lib.ListN.{length}
+use lib.ListN.{length, drop}
+use Rattle.csv.specs.Records.{furtherRecords}
+use Rattle.planning.specs.declared.Fault.{Fault}
 use Rattle.planning.specs.declared.Fault.the-variants.{NoEngine}
 use Rattle.planning.specs.declared.Mode.{Mode}
 use Rattle.planning.specs.Bounds.{mostEngines, mostDeliveries}
 use Rattle.planfile.specs.FilePlan.{FilePlan}
+use Rattle.planfile.specs.Laws.Reading.{begun}
 use Rattle.planfile.specs.Laws.Records.{engineOf, deliveryOf}
-use Rattle.planfile.specs.Reading.{Read, refused, accepted, fault, require, fieldsOf, readRecord, _>>=_}
+use Rattle.planfile.specs.Reading.{Read, refused, accepted, fault, require, fieldsOf, readRecord, readRecords, _>>=_}
 use Rattle.filecall.specs.declared.reading.Added.{Added}
 use Rattle.filecall.specs.declared.reading.Added.the-variants as added
+use Rattle.filecall.specs.declared.reading.Items.{Items}
 use Rattle.filecall.specs.declared.reading.Plan.{Plan}
 use Rattle.filecall.specs.declared.reading.Reading.{Reading}
 use Rattle.filecall.specs.declared.reading.Verdict.the-variants.{Accepted, Refused}
@@ -73,3 +77,20 @@ withEngine m = do
   f ← m
   _ ← require (leb 1 (length (f .engines))) NoEngine 0
   accepted f
+
+-- the items that the records from a place on are read as, in columns
+unfoldable pub refusedItems : Fault → (place : ℕ) → Items
+refusedItems what place = record { verdict = Refused (record { fault = what; place = place }); engines = 0; deliveries = 0 }
+
+unfoldable pub ItemsBy : Read FilePlan → Mode → (minutes allowance : ℕ) → (e d : Columns) → Items → Type 0
+ItemsBy (refused refusal) mode minutes allowance e d r = r .verdict ≡ Refused refusal
+ItemsBy (accepted f) mode minutes allowance e d r =
+    (r .verdict ≡ Accepted)
+    × (f ≡ planIn mode minutes allowance (r .engines) (r .deliveries) e d)
+    × Holding (r .engines) mostEngines e
+    × Holding (r .deliveries) mostDeliveries d
+
+unfoldable pub ItemsRead : (file : List ℕ) → (start : ℕ) → (e d : Columns) → Items → Type 0
+ItemsRead file start e d r =
+    (mode : Mode) (minutes allowance n : ℕ) → length (drop start file) ≤ n
+    → ItemsBy (withEngine (readRecords (begun mode minutes allowance) 2 (furtherRecords n (drop start file)))) mode minutes allowance e d r

@@ -1,55 +1,67 @@
-// A record's text cut into its fields.
-use csv::FieldForm;
+// A record of a file cut into its fields.
 ghost use mathlib.Core.Path.{_≡_};
 ghost use mathlib.Core.Bool.{false};
 ghost use mathlib.Core.List.{List, []};
 ghost use mathlib.Core.Option.{some};
-ghost use Prim.Native.Nat.{ℕ, _<_};
-ghost use lib.ListN.{getD};
+ghost use Prim.Native.Nat.{ℕ, _≤_, _<_};
+ghost use lib.ListN.{length, getD};
 ghost use Rattle.csv.specs.Fields.{rawFields, fieldValue};
 ghost use Rattle.csv.specs.Spans.{holdsQuote};
-ghost use Rattle.filecall.specs.Parts.{IsCut};
+ghost use Rattle.filecall.specs.Parts.{IsCut, CutAt};
 ghost use Rattle.planfile.specs.Reading.{same};
 
-// The fields of a record's text: whether it keeps RFC 4180, how many there are (5 for more than four), and where the first four stand.
+// The fields of a record: whether it keeps RFC 4180 and, where it does, how many there are (5 for more than four), where the first four
+// stand in its text, where the text ends in the file, and where the next record begins.
 pub(crate) struct Fields {
     pub sound: bool,
     pub count: usize,
     pub start: [usize; 4],
     pub end: [usize; 4],
+    pub stop: usize,
+    pub next: usize,
 }
 
-pub(crate) fn cut(text: &[u8]) -> Fields
-    ensures { λ r. ⌜ IsCut (now (text .entry)) r ⌝ }
+// Cuts the record that begins at a place of a file. It ends at the first field that breaks the grammar: what follows cannot mend it.
+pub(crate) fn cut(file: &[u8], from: usize) -> Fields
+    requires { ⌜ from ≤ length (now file) ⌝ }
+    ensures { λ r. ⌜ CutAt (now (file .entry)) from r ⌝ }
 {
     let mut start = [0usize; 4];
     let mut end = [0usize; 4];
     let mut count = 0;
-    let mut sound = true;
-    let mut from = 0;
+    let mut at = from;
+    let mut stop = from;
     let mut more = true;
     while more {
-        let span = csv::field_at(text, from);
-        let stop = span.end;
-        let form = csv::form_of(&text[from..stop]);
-        if let FieldForm::Broken = form {
-            sound = false;
+        let read = csv::field_read(file, at);
+        if !read.sound {
+            return Fields {
+                sound: false,
+                count: 0,
+                start: [0; 4],
+                end: [0; 4],
+                stop: 0,
+                next: 0,
+            };
         }
+        stop = read.end;
         if count < 4 {
-            start[count] = from;
-            end[count] = stop;
+            start[count] = at - from;
+            end[count] = stop - from;
         }
         if count < 5 {
             count += 1;
         }
-        more = span.more;
-        from = stop + 1;
+        at = read.next;
+        more = read.more;
     }
     Fields {
-        sound,
+        sound: true,
         count,
         start,
         end,
+        stop,
+        next: at,
     }
 }
 

@@ -11,6 +11,7 @@ ghost use Prim.Native.Nat.{ℕ};
 ghost use Rattle.csv.specs.Fields.{fieldValue};
 ghost use Rattle.planfile.specs.Reading.{readMode};
 ghost use Rattle.filecall.specs.Opening.{modeRead, openingRead, readOpening};
+ghost use Rattle.filecall.specs.Parts.{IsCut};
 
 // A mode by its word, or a fault.
 pub(crate) enum ModeField {
@@ -37,14 +38,11 @@ fn mode_of(raw: &[u8]) -> ModeField
     ModeField::Fault
 }
 
-// Reads record 1: 2, 3 and 4, then its fields from the left.
-pub(crate) fn read(text: &[u8]) -> Opening
+// Reads record 1, which keeps RFC 4180: 3 and 4, then its fields from the left.
+pub(crate) fn read(text: &[u8], fields: entry::Fields) -> Opening
+    requires { ⌜ IsCut (now text) fields ⌝ }
     ensures { λ r. ⌜ openingRead r ≡ readOpening (now (text .entry)) ⌝ }
 {
-    let fields = entry::cut(text);
-    if !fields.sound {
-        return Opening::Fault(Fault::Grammar);
-    }
     if fields.count != 4 {
         return Opening::Fault(Fault::Fields);
     }

@@ -12,8 +12,9 @@ ghost use lib.ListN.{length, drop};
 ghost use Rattle.csv.specs.Records.{furtherRecords};
 ghost use Rattle.planfile.specs.Reading.{fault as faultAt, readRecords, readFile};
 ghost use Rattle.filecall.specs.Items.{Columns, Holding};
+ghost use Rattle.filecall.specs.Parts.{IsCut};
 ghost use Rattle.planfile.specs.Laws.Reading.{begun};
-ghost use Rattle.filecall.specs.PlanRead.{AddsRecord, ReadBy, withEngine};
+ghost use Rattle.filecall.specs.PlanRead.{AddsRecord, ItemsRead, ReadBy, refusedItems, withEngine};
 
 // A plan by value: its engines and its deliveries as columns, filled from the front. A name has 16 bytes, of which the first so many count.
 pub(crate) struct Plan {
@@ -50,9 +51,10 @@ pub(crate) enum Added {
     Fault(Fault),
 }
 
-// Adds a record's engine or delivery: 2, 3 and 4, then 7 and the item's fields.
+// Adds the engine or delivery of a record that keeps RFC 4180: 3 and 4, then 7 and the item's fields.
 fn add_record(
     text: &[u8],
+    fields: entry::Fields,
     engines: usize,
     deliveries: usize,
     engine_names: &mut [u8],
@@ -65,7 +67,8 @@ fn add_record(
     limits: &mut [u64],
 ) -> Added
     requires { ⌜
-        Holding engines 12 (record { names = now «engine_names»; sizes = now «engine_sizes»; firsts = now watts; seconds = now fuels })
+        IsCut (now text) fields
+        × Holding engines 12 (record { names = now «engine_names»; sizes = now «engine_sizes»; firsts = now watts; seconds = now fuels })
         × Holding deliveries 64 (record { names = now «delivery_names»; sizes = now «delivery_sizes»; firsts = now energies; seconds = now limits })
         ⌝ }
     ensures { λ r. ⌜
@@ -80,10 +83,6 @@ fn add_record(
         r
         ⌝ }
 {
-    let fields = entry::cut(text);
-    if !fields.sound {
-        return Added::Fault(Fault::Grammar);
-    }
     if fields.count != 4 {
         return Added::Fault(Fault::Fields);
     }
@@ -161,7 +160,93 @@ fn refused(fault: Fault, place: u64) -> Reading
     }
 }
 
-// Reads the records from a place on, which are records 2 and further; 8 after the last one.
+// What reading a file's items comes to: how many engines and deliveries, or a refusal beside counts that mean nothing.
+pub(crate) struct Items {
+    pub verdict: Verdict,
+    pub engines: usize,
+    pub deliveries: usize,
+}
+
+fn refused_items(fault: Fault, place: u64) -> Items
+    ensures { λ r. ⌜ r ≡ refusedItems fault place ⌝ }
+{
+    Items {
+        verdict: Verdict::Refused(Refusal { fault, place }),
+        engines: 0,
+        deliveries: 0,
+    }
+}
+
+// Reads the records from a place on, which are records 2 and further, into empty columns; 8 after the last one.
+fn read_records(
+    file: &[u8],
+    start: usize,
+    engine_names: &mut [u8],
+    engine_sizes: &mut [u8],
+    watts: &mut [u64],
+    fuels: &mut [u64],
+    delivery_names: &mut [u8],
+    delivery_sizes: &mut [u8],
+    energies: &mut [u64],
+    limits: &mut [u64],
+) -> Items
+    requires { ⌜
+        (length (now file) ≤ 32768)
+        × Holding 0 12 (record { names = now «engine_names»; sizes = now «engine_sizes»; firsts = now watts; seconds = now fuels })
+        × Holding 0 64 (record { names = now «delivery_names»; sizes = now «delivery_sizes»; firsts = now energies; seconds = now limits })
+        ⌝ }
+    ensures { λ r. ⌜
+        ItemsRead
+        (now (file .entry))
+        start
+        (record { names = now («engine_names» .exit); sizes = now («engine_sizes» .exit); firsts = now (watts .exit); seconds = now (fuels .exit) })
+        (record { names = now («delivery_names» .exit); sizes = now («delivery_sizes» .exit); firsts = now (energies .exit); seconds = now (limits .exit) })
+        r
+        ⌝ }
+{
+    let mut engines = 0;
+    let mut deliveries = 0;
+    let mut from = start;
+    let mut place: u64 = 2;
+    while from < file.len() {
+        let fields = entry::cut(file, from);
+        if !fields.sound {
+            return refused_items(Fault::Grammar, place);
+        }
+        let stop = fields.stop;
+        let added = add_record(
+            &file[from..stop],
+            fields,
+            engines,
+            deliveries,
+            &mut *engine_names,
+            &mut *engine_sizes,
+            &mut *watts,
+            &mut *fuels,
+            &mut *delivery_names,
+            &mut *delivery_sizes,
+            &mut *energies,
+            &mut *limits,
+        );
+        match added {
+            Added::Engine => engines += 1,
+            Added::Delivery => deliveries += 1,
+            Added::Fault(fault) => return refused_items(fault, place),
+        }
+        from = fields.next;
+        place += 1;
+    }
+    if engines == 0 {
+        return refused_items(Fault::NoEngine, 0);
+    }
+    Items {
+        verdict: Verdict::Accepted,
+        engines,
+        deliveries,
+    }
+}
+
+// Reads the same into a plan.
 fn read_items(file: &[u8], start: usize, mode: Mode, minutes: u64, allowance: u64) -> Reading
     requires { ⌜ length (now file) ≤ 32768 ⌝ }
     ensures { λ r. ⌜
@@ -177,56 +262,35 @@ fn read_items(file: &[u8], start: usize, mode: Mode, minutes: u64, allowance: u6
     let mut delivery_sizes = [0u8; 64];
     let mut energies = [0u64; 64];
     let mut limits = [0u64; 64];
-    let mut engines = 0;
-    let mut deliveries = 0;
-    let mut from = start;
-    let mut place: u64 = 2;
-    while from < file.len() {
-        let span = csv::record_at(file, from);
-        let stop = span.end;
-        let added = add_record(
-            &file[from..stop],
-            engines,
-            deliveries,
-            &mut engine_names,
-            &mut engine_sizes,
-            &mut watts,
-            &mut fuels,
-            &mut delivery_names,
-            &mut delivery_sizes,
-            &mut energies,
-            &mut limits,
-        );
-        match added {
-            Added::Engine => engines += 1,
-            Added::Delivery => deliveries += 1,
-            Added::Fault(fault) => return refused(fault, place),
-        }
-        from = span.next;
-        place += 1;
-    }
-    if engines == 0 {
-        return refused(Fault::NoEngine, 0);
-    }
+    let items = read_records(
+        file,
+        start,
+        &mut engine_names,
+        &mut engine_sizes,
+        &mut watts,
+        &mut fuels,
+        &mut delivery_names,
+        &mut delivery_sizes,
+        &mut energies,
+        &mut limits,
+    );
     let plan = Plan {
         mode,
         minutes,
         allowance,
-        engines,
+        engines: items.engines,
         engine_names,
         engine_sizes,
         watts,
         fuels,
-        deliveries,
+        deliveries: items.deliveries,
         delivery_names,
         delivery_sizes,
         energies,
         limits,
     };
-    Reading {
-        verdict: Verdict::Accepted,
-        plan,
-    }
+    let verdict = items.verdict;
+    Reading { verdict, plan }
 }
 
 // Reads a whole file: 1, then record 1, then the others.
@@ -236,13 +300,16 @@ pub(crate) fn read(file: &[u8]) -> Reading
     if file.len() == 0 || 32768 < file.len() {
         return refused(Fault::Size, 0);
     }
-    let span = csv::record_at(file, 0);
-    let stop = span.end;
-    let opening = opening::read(&file[..stop]);
+    let fields = entry::cut(file, 0);
+    if !fields.sound {
+        return refused(Fault::Grammar, 1);
+    }
+    let stop = fields.stop;
+    let opening = opening::read(&file[..stop], fields);
     match opening {
         Opening::Fault(fault) => refused(fault, 1),
         Opening::Plan(mode, minutes, allowance) => {
-            read_items(file, span.next, mode, minutes, allowance)
+            read_items(file, fields.next, mode, minutes, allowance)
         }
     }
 }

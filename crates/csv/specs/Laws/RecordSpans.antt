@@ -15,7 +15,7 @@ use Rattle.csv.specs.Records.{outsideAfter, behindEnd, endedOr, firstFro
 use Rattle.csv.specs.Spans.{spanFrom, recordSpan}
 
 -- what stands behind a record's text: nothing, or a record end and the bytes behind it
-abbrev behindText : Option (List ℕ) → List ℕ
+abbrev pub behindText : Option (List ℕ) → List ℕ
 behindText none = []
 behindText (some rest) = carriageReturn ∷ lineFeed ∷ rest
 
@@ -32,7 +32,7 @@ end-cut outside b [] further e = absurd (Option·none-ne-some further e)
 end-cut outside b (c ∷ rest) further e = end-by outside _ _ b c rest further refl refl e
 
 -- bytes are the text of their first record and what stands behind it
-bytes-cut : (outside : Bool) (bytes : List ℕ) → bytes ≡ firstFrom outside bytes .text ++ behindText (firstFrom outside bytes .behind)
+pub bytes-cut : (outside : Bool) (bytes : List ℕ) → bytes ≡ firstFrom outside bytes .text ++ behindText (firstFrom outside bytes .behind)
 unfolding firstFrom endedOr
 bytes-cut outside [] = refl
 bytes-cut outside (b ∷ rest) = go (behindEnd outside (b ∷ rest)) refl (bytes-cut (outsideAfter outside b) rest)

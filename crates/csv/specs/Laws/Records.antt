@@ -44,7 +44,7 @@ raw-last : {raw value : List ℕ} → Field raw value → rawFields raw ≡ raw 
 unfolding rawFields
 raw-last {raw} r = ap (rawFieldsFrom true) (sym (append-nil raw)) ∙ unbroken-uncut (field-unbroken r) [] ∙ rw append-nil
 
-raw-more : {raw value : List ℕ} → Field raw value → (text : List ℕ) → rawFields (raw ++ comma ∷ text) ≡ raw ∷ rawFields text
+pub raw-more : {raw value : List ℕ} → Field raw value → (text : List ℕ) → rawFields (raw ++ comma ∷ text) ≡ raw ∷ rawFields text
 unfolding rawFields
 raw-more r text = unbroken-uncut (field-unbroken r) (comma ∷ text) ∙ rw append-nil
 

@@ -124,7 +124,7 @@ place-quote b outside bytes at h e other = place-passed b outside bytes at h oth
 
 -- ---- the record
 
-no-end : (outside : Bool) (b : ℕ) (rest : List ℕ) → (outside && eqb b carriageReturn) ≡ false → behindEnd outside (b ∷ rest) ≡ none
+pub no-end : (outside : Bool) (b : ℕ) (rest : List ℕ) → (outside && eqb b carriageReturn) ≡ false → behindEnd outside (b ∷ rest) ≡ none
 unfolding behindEnd
 no-end outside b [] e = refl
 no-end true b (c ∷ rest) e = rw e
@@ -211,7 +211,7 @@ field-found text from r found =
 -- ---- the text
 
 -- between 20 and 7E, without quotes and commas, stands TEXTDATA, and nowhere else
-plain-text : (x : ℕ) → isPlain 0x20 0x7E comma x ≡ true → isText (classOf x) ≡ true
+pub plain-text : (x : ℕ) → isPlain 0x20 0x7E comma x ≡ true → isText (classOf x) ≡ true
 unfolding isText
 plain-text x e =
     let plain = plain-means 0x20 0x7E comma x e in
@@ -238,7 +238,7 @@ text-plain {x} (text-20-21 p q) = means-plain 0x20 0x7E comma x (omega arith) (o
 text-plain {x} (text-23-2B p q) = means-plain 0x20 0x7E comma x (omega arith) (omega arith) (omega arith) (omega arith)
 text-plain {x} (text-2D-7E p q) = means-plain 0x20 0x7E comma x (omega arith) (omega arith) (omega arith) (omega arith)
 
-other-text : (x : ℕ) → isPlain 0x20 0x7E comma x ≡ false → isText (classOf x) ≡ false
+pub other-text : (x : ℕ) → isPlain 0x20 0x7E comma x ≡ false → isText (classOf x) ≡ false
 other-text x e = go (isText (classOf x)) refl
   where
     go : (t : Bool) → isText (classOf x) ≡ t → isText (classOf x) ≡ false

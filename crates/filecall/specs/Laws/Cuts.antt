@@ -1,72 +1,53 @@
--- A record's text cut into its fields, one field after the other: what is known when some of them are passed. Assumes nothing.
+-- A record of a file cut into its fields, one field after the other: what is known when some of them are passed. Assumes nothing.
 use mathlib.Core.Path.{_≡_, refl, sym, ap, _∙_}
 use mathlib.Core.Logic.{_⊎_, inl, inr}
 use Prim.Native.Nat.{ℕ, _+_, _-_, _≤_, _<_, min}
 use native.Mathlib.Omega.{arith}
-use mathlib.Core.Bool.{Bool, true, false, cond}
-use mathlib.Core.List.{List, [], _∷_, _++_, append-nil}
-use mathlib.Core.Option.{Option, none, some, Option·map}
+use mathlib.Core.Bool.{Bool, true, false, cond, true≢false}
+use mathlib.Core.List.{List, [], _∷_, _++_, append-nil, append-assoc}
+use mathlib.Core.Option.{Option, none, some, Option·none-ne-some}
 use lib.ListN.{length, take, drop, getD, set, length-append, length-set, List·getD-append}
-use lib.Seq.{append-snoc, getD-at, getD-set-same, getD-set-other}
-use Rattle.csv.specs.declared.FieldForm.the-variants.{Broken}
-use Rattle.csv.specs.declared.FieldSpan.{FieldSpan}
+use lib.Seq.{append-snoc, getD-at, getD-set-same, getD-set-other, take-at, drop-at}
+use Rattle.csv.specs.declared.FieldRead.{FieldRead}
+use Rattle.csv.specs.Bytes.{comma}
 use Rattle.csv.specs.Fields.{rawFields, fieldValue, andThen, readAll, fieldValues}
-use Rattle.csv.specs.Spans.{fieldSpan, formOf}
-use Rattle.csv.specs.Laws.Parts.{broken-none, none-broken}
-use Rattle.csv.specs.Laws.Spans.{fields-from, field-within}
+use Rattle.csv.specs.Records.{firstRecord}
+use Rattle.csv.specs.Spans.{recordSpan, fieldRead}
+use Rattle.csv.specs.Laws.RecordSpans.{record-stands}
+use Rattle.csv.specs.Laws.FieldReads.{ReadAt, broken-record, field-told}
 use Rattle.planning.specs.Laws.Finite.Decisions.{le-or-lt}
 use Rattle.planning.specs.Search.{at}
 use Rattle.filecall.specs.declared.entry.Fields.{Fields}
-use Rattle.filecall.specs.Parts.{IsCut}
+use Rattle.filecall.specs.Parts.{IsCut, CutAt}
 
 -- ---- the values of some fields and of one more
 
--- the verdict on some fields: sound where all have a value
-abbrev pub Verdict : Bool → Option (List (List ℕ)) → Type 0
-Verdict true values = (all : List (List ℕ)) × (values ≡ some all)
-Verdict false values = values ≡ none
+-- all have a value
+abbrev pub Valued : List (List ℕ) → Type 0
+Valued fields = (values : List (List ℕ)) × (readAll fieldValue fields ≡ some values)
 
--- one more field without a value
-read-broken : (fields : List (List ℕ)) (field : List ℕ) → fieldValue field ≡ none → readAll fieldValue (fields ++ field ∷ []) ≡ none
+-- one more field with a value
+one-valued : (fields : List (List ℕ)) (field value : List ℕ) → fieldValue field ≡ some value → Valued fields → Valued (fields ++ field ∷ [])
 unfolding readAll andThen
-read-broken [] field e = rw e
-read-broken (first ∷ fields) field e = rw (read-broken fields field e) (go (fieldValue first))
+one-valued [] field value e v = (value ∷ [], rw e)
+one-valued (first ∷ fields) field value e (values, f) =
+    go (fieldValue first) (readAll fieldValue fields) refl refl f (λ v. one-valued fields field value e v)
+  where
+    go : (o : Option (List ℕ)) (others : Option (List (List ℕ))) → fieldValue first ≡ o → readAll fieldValue fields ≡ others → andThen o others ≡ some values
+        → (Valued fields → Valued (fields ++ field ∷ [])) → Valued (first ∷ fields ++ field ∷ [])
+    go none others p q f more = absurd (Option·none-ne-some _ f)
+    go (some a) none p q f more = absurd (Option·none-ne-some _ f)
+    go (some a) (some bs) p q f more = let (all, g) = more (bs, q) in (a ∷ all, rw (p, g))
+
+-- fields of which the first that are left have none
+left-broken : (fields others : List (List ℕ)) → readAll fieldValue others ≡ none → readAll fieldValue (fields ++ others) ≡ none
+unfolding readAll andThen
+left-broken [] others e = e
+left-broken (first ∷ fields) others e = rw (left-broken fields others e) (go (fieldValue first))
   where
     go : (o : Option (List ℕ)) → andThen o none ≡ none
     go none = refl
     go (some value) = refl
-
--- one more field with a value
-read-more : (fields : List (List ℕ)) (field value : List ℕ) → fieldValue field ≡ some value
-    → readAll fieldValue (fields ++ field ∷ []) ≡ Option·map (λ (values : List (List ℕ)). values ++ value ∷ []) (readAll fieldValue fields)
-unfolding readAll andThen
-read-more [] field value e = rw e
-read-more (first ∷ fields) field value e = rw (read-more fields field value e) (go (fieldValue first) (readAll fieldValue fields))
-  where
-    behind : List (List ℕ) → List (List ℕ)
-    behind values = values ++ value ∷ []
-
-    go : (o : Option (List ℕ)) (others : Option (List (List ℕ))) → andThen o (Option·map behind others) ≡ Option·map behind (andThen o others)
-    go none others = refl
-    go (some value) none = refl
-    go (some value) (some values) = refl
-
-verdict-kept : (sound : Bool) (more : List (List ℕ) → List (List ℕ)) (values : Option (List (List ℕ))) → Verdict sound values
-    → Verdict sound (Option·map more values)
-verdict-kept true more values (all, e) = (more all, rw e)
-verdict-kept false more values e = rw e
-
--- the verdict behind one more field
-pub verdict-broken : (fields : List (List ℕ)) (field : List ℕ) → formOf field ≡ Broken → Verdict false (readAll fieldValue (fields ++ field ∷ []))
-verdict-broken fields field e = read-broken fields field (broken-none field e)
-
-pub verdict-same : (sound : Bool) (fields : List (List ℕ)) (field : List ℕ) → (formOf field ≡ Broken → ⊥) → Verdict sound (readAll fieldValue fields)
-    → Verdict sound (readAll fieldValue (fields ++ field ∷ []))
-verdict-same sound fields field unbroken v = go (fieldValue field) refl
-  where
-    go : (o : Option (List ℕ)) → fieldValue field ≡ o → Verdict sound (readAll fieldValue (fields ++ field ∷ []))
-    go none e = absurd (unbroken (none-broken field e))
-    go (some value) e = rw (read-more fields field value e) (verdict-kept sound _ (readAll fieldValue fields) v)
 
 -- ---- the places of the first four fields
 
@@ -99,92 +80,171 @@ module _ (text start end : List ℕ) (count : ℕ) (fields : List (List ℕ)) (f
   places-same : (n : ℕ) → 4 ≤ count → count ≤ length fields → Places text start end n (fields ++ field ∷ [])
   places-same n all counts j l m = rw (List·getD-append fields (field ∷ []) [] j (omega arith)) (places j (omega arith) m)
 
--- ---- the text
+-- a field behind some bytes of the text
+place-behind : (text done raw tail : List ℕ) → text ≡ done ++ (raw ++ tail) → Place text (length done) (length done + length raw) raw
+place-behind text done raw tail e =
+    let n : length done + length raw - length done ≡ length raw = omega arith in (
+      omega arith,
+      omega (arith, ap length e, length-append done (raw ++ tail), length-append raw tail),
+      rw (n, e, drop-at done (raw ++ tail) (length done) refl) (take-at raw tail (length raw) refl),
+    )
 
--- some fields are passed: with those from a place on, where there are more, they are the text's
-pub record Passed (text start end : List ℕ) (count : ℕ) (sound : Bool) (from : ℕ) (more : Bool) : Type 0 where
+-- ---- the record
+
+-- some fields of the record that begins at a place are passed: with those from another place on, where there are more, they are all
+pub record Passed (file : List ℕ) (from : ℕ) (start end : List ℕ) (count at stop : ℕ) (more : Bool) : Type 0 where
   pub fields : List (List ℕ)
-  pub whole : rawFields text ≡ fields ++ cond more (rawFields (drop from text)) []
-  pub begins : more ≡ true → from ≤ length text
+  pub whole : rawFields (firstRecord (drop from file) .text) ≡ fields ++ cond more (rawFields (firstRecord (drop at file) .text)) []
   pub counts : count ≡ min 5 (length fields)
-  pub verdict : Verdict sound (readAll fieldValue fields)
+  pub valued : Valued fields
   pub starts : length start ≡ 4
   pub ends : length end ≡ 4
-  pub places : Places text start end count fields
+  pub places : Places (firstRecord (drop from file) .text) start end count fields
+  -- where there are more
+  pub begins : more ≡ true → at ≤ length file
+  pub done : List ℕ
+  pub place : more ≡ true → at ≡ from + length done
+  pub text : more ≡ true → firstRecord (drop from file) .text ≡ done ++ firstRecord (drop at file) .text
+  pub span : more ≡ true → recordSpan file from ≡ recordSpan file at
+  -- and where not
+  pub stops : more ≡ false → stop ≡ recordSpan file from .end
+  pub next : more ≡ false → at ≡ recordSpan file from .next
 
-pub none-passed : (text start end : List ℕ) → length start ≡ 4 → length end ≡ 4 → Passed text start end 0 true 0 true
+pub none-passed : (file : List ℕ) (from : ℕ) (start end : List ℕ) → from ≤ length file → length start ≡ 4 → length end ≡ 4
+    → Passed file from start end 0 from from true
 unfolding readAll
-none-passed text start end starts ends =
+none-passed file from start end inside starts ends =
     record {
       fields = [];
       whole = refl;
-      begins = λ e. omega arith;
       counts = refl;
-      verdict = ([], refl);
+      valued = ([], refl);
       starts = starts;
       ends = ends;
       places = λ j l m. absurd (omega arith);
+      begins = λ more. inside;
+      done = [];
+      place = λ more. omega arith;
+      text = λ more. refl;
+      span = λ more. refl;
+      stops = λ over. absurd (true≢false over);
+      next = λ over. absurd (true≢false over);
     }
 
-module _ {text start end : List ℕ} {count from : ℕ} {sound more : Bool} (p : Passed text start end count sound from more) (again : more ≡ true)
-    (span : FieldSpan) (e : span ≡ fieldSpan text from) where
-  pub inside : (from ≤ span .end) × (span .end ≤ length text) × (span .more ≡ true → span .end < length text)
-  inside = rw e (field-within text from (p .begins again))
+module _ {file start end : List ℕ} {from count at stop : ℕ} {more : Bool} (p : Passed file from start end count at stop more) (again : more ≡ true)
+    (read : FieldRead) (e : read ≡ fieldRead file at) where
+  -- a field that breaks the grammar
+  pub cut-broken : read .sound ≡ false → fieldValues (firstRecord (drop from file) .text) ≡ none
+  unfolding fieldValues
+  cut-broken unsound =
+      let rest : fieldValues (firstRecord (drop at file) .text) ≡ none = broken-record file at (rw e at unsound) in
+      rw (p .whole, again) (left-broken (p .fields) (rawFields (firstRecord (drop at file) .text)) rest)
 
-  abbrev next-field : List ℕ
-  next-field = take (span .end - from) (drop from text)
+  module _ (sound : read .sound ≡ true) where
+    pub told : ReadAt file at read
+    told = rw e (field-told file at (rw e at sound))
 
-  next-whole : rawFields text ≡ (p .fields ++ next-field ∷ []) ++ cond (span .more) (rawFields (drop (span .end + 1) text)) []
-  next-whole =
-      let others : List (List ℕ) = cond (span .more) (rawFields (drop (span .end + 1) text)) [] in
-      let first : rawFields (drop from text) ≡ next-field ∷ others = rw e (fields-from text from) in
-      (rw again at (p .whole)) ∙ ap (λ (fields : List (List ℕ)). p .fields ++ fields) first ∙ sym (append-snoc (p .fields) next-field others)
+    -- what is left of the file, and one more for the field that may stand at its end, as long as there are more
+    pub less-left : cond (read .more) (length file + 1 - read .next) 0 < cond more (length file + 1 - at) 0
+    less-left = rw again (go (read .more) refl)
+      where
+        go : (t : Bool) → read .more ≡ t → cond t (length file + 1 - read .next) 0 < length file + 1 - at
+        go true goes = omega (arith, told .behind goes, told .ends, told .inside goes)
+        go false over = omega (arith, p .begins again)
 
-  -- the next field is passed
-  pub next-passed : (start′ end′ : List ℕ) (count′ : ℕ) (sound′ : Bool) → Verdict sound′ (readAll fieldValue (p .fields ++ next-field ∷ []))
-      → ((count < 4) × (start′ ≡ set start count from) × (end′ ≡ set end count (span .end))) ⊎ ((4 ≤ count) × (start′ ≡ start) × (end′ ≡ end))
-      → count′ ≡ min 5 (count + 1) → Passed text start′ end′ count′ sound′ (span .end + 1) (span .more)
-  next-passed start′ end′ count′ sound′ verdict (inl (room, s, t)) counts =
-      let n = length-append (p .fields) (next-field ∷ []) in
-      let total : count′ ≡ count + 1 = omega arith in
-      record {
-        fields = p .fields ++ next-field ∷ [];
-        whole = next-whole;
-        begins = λ m. omega (arith, inside .2 m);
-        counts = omega (arith, p .counts);
-        verdict = verdict;
-        starts = rw s (length-set start count from ∙ p .starts);
-        ends = rw t (length-set end count (span .end) ∙ p .ends);
-        places =
+    next-whole : rawFields (firstRecord (drop from file) .text)
+        ≡ (p .fields ++ told .raw ∷ []) ++ cond (read .more) (rawFields (firstRecord (drop (read .next) file) .text)) []
+    next-whole =
+        (rw again at (p .whole))
+        ∙ ap (λ (fields : List (List ℕ)). p .fields ++ fields) (told .fields)
+        ∙ sym (append-snoc (p .fields) (told .raw) _)
+
+    next-text : firstRecord (drop from file) .text ≡ p .done ++ (told .raw ++ told .tail)
+    next-text = p .text again ∙ ap (λ (text : List ℕ). p .done ++ text) (told .text)
+
+    -- the field stands in the text
+    next-place : Place (firstRecord (drop from file) .text) (at - from) (read .end - from) (told .raw)
+    next-place =
+        let s : at - from ≡ length (p .done) = omega (arith, p .place again) in
+        let t : read .end - from ≡ length (p .done) + length (told .raw) = omega (arith, p .place again, told .ends) in
+        rw (s, t) (place-behind (firstRecord (drop from file) .text) (p .done) (told .raw) (told .tail) next-text)
+
+    -- the next field is passed
+    pub next-passed : (start′ end′ : List ℕ) (count′ : ℕ)
+        → ((count < 4) × (start′ ≡ set start count (at - from)) × (end′ ≡ set end count (read .end - from))) ⊎ ((4 ≤ count) × (start′ ≡ start) × (end′ ≡ end))
+        → count′ ≡ min 5 (count + 1) → Passed file from start′ end′ count′ (read .next) (read .end) (read .more)
+    next-passed start′ end′ count′ stored counts =
+        let n = length-append (p .fields) (told .raw ∷ []) in
+        record {
+          fields = p .fields ++ told .raw ∷ [];
+          whole = next-whole;
+          counts = omega (arith, p .counts);
+          valued = one-valued (p .fields) (told .raw) (told .value) (told .valued) (p .valued);
+          starts = lengths stored .0;
+          ends = lengths stored .1;
+          places = places stored;
+          begins = told .inside;
+          done = p .done ++ (told .raw ++ comma ∷ []);
+          place = λ goes. omega (arith, p .place again, told .ends, told .behind goes, length-append (p .done) (told .raw ++ comma ∷ []), length-append (told .raw) (comma ∷ []));
+          text = λ goes.
+              next-text
+              ∙ rw (told .onward goes)
+              (ap (λ (text : List ℕ). p .done ++ text) (sym (append-assoc (told .raw) (comma ∷ []) (firstRecord (drop (read .next) file) .text)))
+              ∙ sym (append-assoc (p .done) (told .raw ++ comma ∷ []) (firstRecord (drop (read .next) file) .text)));
+          span = λ goes. p .span again ∙ told .span goes;
+          stops = λ over. sym (rw (p .span again) (told .stops over));
+          next = λ over. sym (rw (p .span again) (told .next over));
+        }
+      where
+        lengths : ((count < 4) × (start′ ≡ set start count (at - from)) × (end′ ≡ set end count (read .end - from))) ⊎ ((4 ≤ count) × (start′ ≡ start) × (end′ ≡ end))
+            → (length start′ ≡ 4) × (length end′ ≡ 4)
+        lengths (inl (room, s, t)) = (rw s (length-set start count (at - from) ∙ p .starts), rw t (length-set end count (read .end - from) ∙ p .ends))
+        lengths (inr (full, s, t)) = (rw s (p .starts), rw t (p .ends))
+
+        places : ((count < 4) × (start′ ≡ set start count (at - from)) × (end′ ≡ set end count (read .end - from))) ⊎ ((4 ≤ count) × (start′ ≡ start) × (end′ ≡ end))
+            → Places (firstRecord (drop from file) .text) start′ end′ count′ (p .fields ++ told .raw ∷ [])
+        places (inl (room, s, t)) =
+            let total : count′ ≡ count + 1 = omega arith in
             rw (s, t, total)
-            (place-stored text start end count (p .fields) next-field (p .places) from (span .end) room (p .starts) (p .ends) (omega (arith, p .counts))
-            (inside .0, inside .1, refl));
-      }
-  next-passed start′ end′ count′ sound′ verdict (inr (full, s, t)) counts =
-      let n = length-append (p .fields) (next-field ∷ []) in
-      record {
-        fields = p .fields ++ next-field ∷ [];
-        whole = next-whole;
-        begins = λ m. omega (arith, inside .2 m);
-        counts = omega (arith, p .counts);
-        verdict = verdict;
-        starts = rw s (p .starts);
-        ends = rw t (p .ends);
-        places = rw (s, t) (places-same text start end count (p .fields) next-field (p .places) count′ full (omega (arith, p .counts)));
-      }
+            (place-stored _ start end count (p .fields) (told .raw) (p .places) (at - from) (read .end - from) room (p .starts) (p .ends) (omega (arith, p .counts)) next-place)
+        places (inr (full, s, t)) =
+            rw (s, t) (places-same _ start end count (p .fields) (told .raw) (p .places) count′ full (omega (arith, p .counts)))
 
 -- all fields are passed
-pub all-passed : {text : List ℕ} (r : Fields) {from : ℕ} {more : Bool} → Passed text (r .start) (r .end) (r .count) (r .sound) from more → more ≡ false
-    → IsCut text r
+pub all-passed : {file : List ℕ} {from : ℕ} (r : Fields) {more : Bool} → r .sound ≡ true
+    → Passed file from (r .start) (r .end) (r .count) (r .next) (r .stop) more → more ≡ false → CutAt file from r
 unfolding fieldValues
-all-passed {text} r p over =
-    let whole : rawFields text ≡ p .fields = (rw over at (p .whole)) ∙ append-nil (p .fields) in
+all-passed {file} {from} r sound p over =
+    let whole : rawFields (firstRecord (drop from file) .text) ≡ p .fields = (rw over at (p .whole)) ∙ append-nil (p .fields) in
     record {
-      starts = p .starts;
-      ends = p .ends;
-      broken = λ e. rw whole (rw e at (p .verdict));
-      sound = λ e. rw whole (rw e at (p .verdict));
-      count = rw whole (p .counts);
-      inside = λ j l m. (p .places j l m .0, p .places j l m .1);
-      field = λ j l m. rw whole (p .places j l m .2);
+      broken = λ unsound. absurd (true≢false (sym sound ∙ unsound));
+      cut = λ sound.
+          record {
+            starts = p .starts;
+            ends = p .ends;
+            values = p .valued .0;
+            valued = rw whole (p .valued .1);
+            count = rw whole (p .counts);
+            inside = λ j l m. (p .places j l m .0, p .places j l m .1);
+            field = λ j l m. rw whole (p .places j l m .2);
+          };
+      stop = λ sound. p .stops over;
+      next = λ sound. p .next over;
     }
+
+-- a field broke the grammar
+pub none-cut : {file : List ℕ} {from : ℕ} (r : Fields) → r .sound ≡ false → fieldValues (firstRecord (drop from file) .text) ≡ none → CutAt file from r
+none-cut r unsound e =
+    record {
+      broken = λ u. e;
+      cut = λ sound. absurd (true≢false (sym sound ∙ unsound));
+      stop = λ sound. absurd (true≢false (sym sound ∙ unsound));
+      next = λ sound. absurd (true≢false (sym sound ∙ unsound));
+    }
+
+-- the record's text in the file
+pub text-stands : {file : List ℕ} {from : ℕ} {r : Fields} → CutAt file from r → r .sound ≡ true → from ≤ length file
+    → (from ≤ r .stop) × (r .stop ≤ length file) × (take (r .stop - from) (drop from file) ≡ firstRecord (drop from file) .text)
+text-stands {file} {from} c sound inside =
+    let stands = record-stands file from inside in
+    rw (c .stop sound) (stands .starts, stands .stops, stands .text)

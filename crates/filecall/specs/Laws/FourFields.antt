@@ -1,8 +1,7 @@
 -- What a record's text that was cut into its fields is read as: a fault, or four fields by their values. Assumes nothing.
 use mathlib.Core.Path.{_≡_, refl, ap, _∙_}
-use mathlib.Core.Bool.{true, false, not}
 use mathlib.Core.List.{List, [], _∷_}
-use mathlib.Core.Option.{some}
+use mathlib.Core.Option.{none, some}
 use Prim.Native.Nat.{ℕ, suc}
 use native.Mathlib.Omega.{arith}
 use lib.ListN.{length, getD}
@@ -13,7 +12,6 @@ use Rattle.planning.specs.declared.Fault.the-variants as what
 use Rattle.planfile.specs.Laws.Records.{fieldList, fields-iff}
 use Rattle.planfile.specs.Reading.{accepted, fault, FourFields, fourOf, unlessBroken, fieldsOf}
 use Rattle.filecall.specs.declared.entry.Fields.{Fields}
-use Rattle.filecall.specs.Laws.Parts.{not-true, not-false}
 use Rattle.filecall.specs.Parts.{IsCut}
 
 -- raw fields that all have a value have as many values
@@ -61,18 +59,18 @@ four-values (a ∷ b ∷ c ∷ d ∷ []) values l e =
       (p, (q, (r, s))),
     )) vs rs) vs qs) vs ps) values e
 
-module _ {text : List ℕ} {cut : Fields} (c : IsCut text cut) where
-  -- 2
-  pub cut-broken : not (cut .sound) ≡ true → (r : ℕ) → fieldsOf r text ≡ fault Grammar r
-  unfolding fieldsOf unlessBroken
-  cut-broken e r = rw (c .broken (not-true (cut .sound) e))
+-- 2
+pub text-broken : (text : List ℕ) → fieldValues text ≡ none → (r : ℕ) → fieldsOf r text ≡ fault Grammar r
+unfolding fieldsOf unlessBroken
+text-broken text e r = rw e
 
+module _ {text : List ℕ} {cut : Fields} (c : IsCut text cut) where
   -- 3
-  pub cut-other : not (cut .sound) ≡ false → (cut .count ≡ 4 → ⊥) → (r : ℕ) → fieldsOf r text ≡ fault what.Fields r
+  pub cut-other : (cut .count ≡ 4 → ⊥) → (r : ℕ) → fieldsOf r text ≡ fault what.Fields r
   unfolding fieldsOf unlessBroken fieldValues
-  cut-other e other r =
-      let (values, read) = c .sound (not-false (cut .sound) e) in
-      ap (unlessBroken r) read ∙ go values (λ four. other (omega (arith, c .count, values-length (rawFields text) values read)))
+  cut-other other r =
+      ap (unlessBroken r) (c .valued)
+      ∙ go (c .values) (λ four. other (omega (arith, c .count, values-length (rawFields text) (c .values) (c .valued))))
     where
       go : (values : List (List ℕ)) → (length values ≡ 4 → ⊥) → fourOf r values ≡ fault what.Fields r
       go [] n = unfold fourOf in refl
@@ -83,9 +81,9 @@ module _ {text : List ℕ} {cut : Fields} (c : IsCut text cut) where
       go (a ∷ b ∷ c ∷ d ∷ more ∷ others) n = unfold fourOf in refl
 
   -- the four fields
-  pub cut-four : not (cut .sound) ≡ false → cut .count ≡ 4 → (x : FourFields) × Valued text x
+  pub cut-four : cut .count ≡ 4 → (x : FourFields) × Valued text x
   unfolding fieldValues Values
-  cut-four e four = go (c .sound (not-false (cut .sound) e) .0) (c .sound (not-false (cut .sound) e) .1)
+  cut-four four = go (c .values) (c .valued)
     where
       go : (values : List (List ℕ)) → fieldValues text ≡ some values → (x : FourFields) × Valued text x
       go values read =

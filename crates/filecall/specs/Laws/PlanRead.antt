@@ -125,10 +125,14 @@ module _ {text : List ℕ} {x : FourFields} (v : Valued text x) where
       )
 
 -- a text that is no record of four fields
-pub record-faulty : (text : List ℕ) (what : Fault) (engines deliveries : ℕ) (e d e′ d′ : Columns) → ((r : ℕ) → fieldsOf r text ≡ fault what r)
-    → AddsRecord text engines deliveries e d e′ d′ (added.Fault what)
-unfolding AddsRecord readText _>>=_ fault
-record-faulty text what engines deliveries e d e′ d′ h mode minutes allowance r = rw (h r)
+module _ (text : List ℕ) (what : Fault) (h : (r : ℕ) → fieldsOf r text ≡ fault what r) where
+  pub text-faulty : (f : FilePlan) (r : ℕ) → readText f r text ≡ fault what r
+  unfolding readText _>>=_ fault
+  text-faulty f r = rw (h r)
+
+  pub record-faulty : (engines deliveries : ℕ) (e d e′ d′ : Columns) → AddsRecord text engines deliveries e d e′ d′ (added.Fault what)
+  unfolding AddsRecord
+  record-faulty engines deliveries e d e′ d′ mode minutes allowance r = text-faulty _ r
 
 -- ---- all records
 

@@ -1,58 +1,58 @@
--- `filecall::entry::cut` meets its contract. The loop's invariant: the fields before `from` are passed. The measure is what is left of the text, and one
--- more for the field that may stand at its end. Assumes nothing.
-use mathlib.Core.Path.{_≡_, refl, sym, _∙_}
+-- `filecall::entry::cut` meets its contract. The loop's invariant: the fields before `at` are passed. The measure is what is left of the file, and one
+-- more for the field that may stand at its end, as long as there are more. Assumes nothing.
+use mathlib.Core.Path.{_≡_, refl}
 use mathlib.Core.Logic.{⊎-elim, inl, inr}
-use mathlib.Core.Bool.{true}
-use mathlib.Core.List.{[], _∷_, _++_}
-use Prim.Native.Nat.{_+_, _-_, _≤_, _<_}
+use mathlib.Core.Bool.{true, cond}
+use Prim.Native.Nat.{_+_, _-_}
 use native.Mathlib.Omega.{arith}
-use types.Run.{miss}
-use lib.ListN.{length, take, drop}
+use lib.ListN.{length}
 use borrow.Author.Needs.{needs}
-use Rattle.csv.specs.Fields.{fieldValue, readAll}
-use Rattle.filecall.specs.Laws.Cuts.{Verdict, Passed, none-passed, inside, next-passed, all-passed, verdict-broken, verdict-same}
+use Rattle.csv.specs.Laws.FieldReads.{ReadAt}
+use Rattle.filecall.specs.Laws.Cuts.{Passed, none-passed, cut-broken, told, less-left, next-passed, all-passed, none-cut}
+use Rattle.filecall.specs.Laws.Parts.{not-true, not-false}
 use Rattle.filecall.proofs.entry.cut.Statement.{statement}
 use Rattle.filecall.proofs.entry.cut.Tie as tie
 
 abbrev Inv-loop : tie.InvT-loop
-Inv-loop text start₀ end₀ count₀ sound₀ from₀ more₀ start end count sound from more = Passed text start end count sound from more
+Inv-loop file from start₀ end₀ count₀ at₀ stop₀ more₀ start end count at stop more = Passed file from start end count at stop more
 
 abbrev μ-loop : tie.MeasureT-loop
-μ-loop text start₀ end₀ count₀ sound₀ from₀ more₀ start end count sound from more = length text + 1 - from
+μ-loop file from start₀ end₀ count₀ at₀ stop₀ more₀ start end count at stop more = cond more (length file + 1 - at) 0
 
 loop-holds : tie.Need-loop-holds Inv-loop μ-loop
-loop-holds c = none-passed _ _ _ refl refl
+loop-holds c = none-passed _ _ _ _ (c .before .pre) refl refl
 
-field-at-requires : tie.Need-field-at-requires Inv-loop μ-loop
-field-at-requires c κs = tt
+field-read-requires : tie.Need-field-read-requires Inv-loop μ-loop
+field-read-requires c κs = search needs
 
--- the next field stands in the text
-span-inside : (c : tie.After-field-at Inv-loop μ-loop) → let span = c .field-at .result in
-    (c .before .before .loop .from ≤ span .end)
-    × (span .end ≤ length (c .before .before .before .before .args .text .now))
-    × (span .more ≡ true → span .end < length (c .before .before .before .before .args .text .now))
-span-inside c = inside (c .before .before .loop .inv) (c .before .loop-test .taken) (c .field-at .result) (c .field-at .ensures)
+returns : tie.Need-returns Inv-loop μ-loop
+returns c =
+    let read = c .before .before .field-read in
+    let test = c .before .before .before in
+    none-cut _ refl (cut-broken (test .before .loop .inv) (test .loop-test .taken) (read .result) (read .ensures) (not-true _ (c .if1 .taken)))
 
-sub-form-of : tie.Need-sub-form-of Inv-loop μ-loop
-sub-form-of c = span-inside c .0
+-- the field that was read
+field : (c : tie.Else1 Inv-loop μ-loop) → ReadAt (c .before .before .before .before .before .before .args .file .now) (c .before .before .before .before .loop .at) (c .before .before .field-read .result)
+field c =
+    let read = c .before .before .field-read in
+    let test = c .before .before .before in
+    told (test .before .loop .inv) (test .loop-test .taken) (read .result) (read .ensures) (not-false _ (c .if1 .left))
 
-part-form-of-start : tie.Need-part-form-of-start Inv-loop μ-loop
-part-form-of-start c = omega (arith, span-inside c .0)
-
-part-form-of-end : tie.Need-part-form-of-end Inv-loop μ-loop
-part-form-of-end c = omega (arith, span-inside c .1)
-
-form-of-requires : tie.Need-form-of-requires Inv-loop μ-loop
-form-of-requires c κs = tt
-
-enum-told : tie.Need-enum-told Inv-loop μ-loop
-enum-told c = search needs
+sub-start : tie.Need-sub-start Inv-loop μ-loop
+sub-start c =
+    let loop = c .before .before .before .before .before .loop in
+    omega (arith, loop .inv .place (c .before .before .before .before .loop-test .taken))
 
 mul-start : tie.Need-mul-start Inv-loop μ-loop
 mul-start c = omega arith
 
 array-write-start : tie.Need-array-write-start Inv-loop μ-loop
 array-write-start c = omega arith
+
+sub-end : tie.Need-sub-end Inv-loop μ-loop
+sub-end c =
+    let loop = c .before .before .before .before .before .loop in
+    omega (arith, loop .inv .place (c .before .before .before .before .loop-test .taken), field (c .before) .ends)
 
 mul-end : tie.Need-mul-end Inv-loop μ-loop
 mul-end c = omega arith
@@ -63,40 +63,40 @@ array-write-end c = omega arith
 add-count : tie.Need-add-count Inv-loop μ-loop
 add-count c = omega arith
 
-add-from : tie.Need-add-from Inv-loop μ-loop
-add-from c = omega (arith, span-inside (c .before .before .before .before .before) .1)
-
 loop-less : tie.Need-loop-less Inv-loop μ-loop
 loop-less c =
-    let within = span-inside (c .before .before .before .before .before) in
-    omega (arith, within .0, within .1)
-
--- the verdict behind the next field
-verdict : (c : tie.At-match-came Inv-loop μ-loop) → let loop = c .before .before .before .before .before .loop in let span = c .before .before .before .field-at .result in
-    let text = c .before .before .before .before .before .before .before .args .text .now in
-    Verdict (c .match .sound) (readAll fieldValue (loop .inv .fields ++ take (span .end - loop .from) (drop (loop .from) text) ∷ []))
-verdict c =
-    let loop = c .before .before .before .before .before .loop in
-    let form = c .before .form-of in
-    ⊎-elim
-    (λ w. rw (w .2) (verdict-broken (loop .inv .fields) _ (sym (form .ensures) ∙ w .1 .given .1)))
-    (λ w.
-    rw (w .1)
-    (verdict-same (loop .sound) (loop .inv .fields) _
-    (λ e. miss (1 ∷ 2 ∷ []) 0 tt (rw (form .ensures ∙ e) at (w .0 .keys2))) (loop .inv .verdict)))
-    (c .match .came)
+    let past = c .before .before in
+    let read = past .before .before .field-read in
+    let test = past .before .before .before in
+    less-left (test .before .loop .inv) (test .loop-test .taken) (read .result) (read .ensures) (not-false _ (past .if1 .left))
 
 loop-again : tie.Need-loop-again Inv-loop μ-loop
 loop-again c =
-    let span = c .before .before .before .before .before .field-at in
-    let loop = c .before .before .before .before .before .before .before .loop in
-    next-passed (loop .inv) (c .before .before .before .before .before .before .loop-test .taken) (span .result) (span .ensures)
-    _ _ _ _ (verdict (c .before .before))
-    (⊎-elim (λ w. inl (w .0 .taken, w .1, w .2)) (λ w. inr (w .0 .left, w .1, w .2)) (c .before .if1 .came))
-    (⊎-elim (λ w. omega arith) (λ w. omega (arith, loop .inv .counts)) (c .if2 .came))
+    let past = c .before .before in
+    let read = past .before .before .field-read in
+    let test = past .before .before .before in
+    next-passed (test .before .loop .inv) (test .loop-test .taken) (read .result) (read .ensures) (not-false _ (past .if1 .left)) _ _ _
+    (⊎-elim (λ w. inl (w .0 .taken, w .1, w .2)) (λ w. inr (w .0 .left, w .1, w .2)) (c .before .if2 .came))
+    (omega (arith, c .if3 .taken))
 
-returns : tie.Need-returns Inv-loop μ-loop
-returns c = all-passed _ (c .before .loop .inv) (c .loop-test .left)
+loop-less-2 : tie.Need-loop-less-2 Inv-loop μ-loop
+loop-less-2 c =
+    let past = c .before .before in
+    let read = past .before .before .field-read in
+    let test = past .before .before .before in
+    less-left (test .before .loop .inv) (test .loop-test .taken) (read .result) (read .ensures) (not-false _ (past .if1 .left))
+
+loop-again-2 : tie.Need-loop-again-2 Inv-loop μ-loop
+loop-again-2 c =
+    let past = c .before .before in
+    let read = past .before .before .field-read in
+    let test = past .before .before .before in
+    next-passed (test .before .loop .inv) (test .loop-test .taken) (read .result) (read .ensures) (not-false _ (past .if1 .left)) _ _ _
+    (⊎-elim (λ w. inl (w .0 .taken, w .1, w .2)) (λ w. inr (w .0 .left, w .1, w .2)) (c .before .if2 .came))
+    (omega (arith, c .if3 .left, test .before .loop .inv .counts))
+
+returns-2 : tie.Need-returns-2 Inv-loop μ-loop
+returns-2 c = all-passed _ refl (c .before .loop .inv) (c .loop-test .left)
 
 pub cut-spec : {M : Type 1} → statement M
 cut-spec =
@@ -105,18 +105,17 @@ cut-spec =
     Inv-loop
     μ-loop
     loop-holds
-    field-at-requires
-    sub-form-of
-    part-form-of-start
-    part-form-of-end
-    form-of-requires
-    enum-told
+    field-read-requires
+    returns
+    sub-start
     mul-start
     array-write-start
+    sub-end
     mul-end
     array-write-end
     add-count
-    add-from
     loop-less
     loop-again
-    returns)
+    loop-less-2
+    loop-again-2
+    returns-2)

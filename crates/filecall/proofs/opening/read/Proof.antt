@@ -6,7 +6,7 @@ use Rattle.csv.specs.Fields.{fieldValue}
 use Rattle.csv.specs.Spans.{holdsQuote}
 use Rattle.csv.specs.Text.{ascii}
 use Rattle.planfile.specs.Reading.{same, FourFields, readMode}
-use Rattle.filecall.specs.Laws.FourFields.{Valued, cut-broken, cut-other, cut-four}
+use Rattle.filecall.specs.Laws.FourFields.{Valued, cut-other, cut-four}
 use Rattle.filecall.specs.Laws.Opening.{opening-faulty, opening-kind, opening-mode, opening-minutes, opening-allowance, opening-read}
 use Rattle.filecall.specs.Laws.Parts.{not-true, not-false}
 use Rattle.filecall.specs.Opening.{modeRead, openingRead}
@@ -15,15 +15,15 @@ use Rattle.filecall.proofs.opening.read.Statement.{statement}
 use Rattle.filecall.proofs.opening.read.Tie as tie
 
 -- the four fields by their values
-valued : (c : tie.Else2) → (x : FourFields) × Valued (c .before .before .before .before .before .before .args .text .now) x
-valued c = cut-four (c .before .before .before .before .cut .ensures) (c .before .before .if1 .left) (c .if2 .left)
+valued : (c : tie.Else1) → (x : FourFields) × Valued (c .before .before .before .args .text .now) x
+valued c = cut-four (c .before .before .before .pre) (c .if1 .left)
 
 -- the word of the first field
-kind : (c : tie.Else3) → true ≡ same (valued (c .before .before .before .before) .0 .first) (ascii "plan")
+kind : (c : tie.Else2) → true ≡ same (valued (c .before .before .before .before) .0 .first) (ascii "plan")
 unfolding ascii
 kind c =
     let v = valued (c .before .before .before .before) .1 in
-    sym (not-false _ (c .if3 .left)) ∙ c .before .is-word .ensures _ (ap fieldValue (c .before .before .before .field .ensures) ∙ v .first)
+    sym (not-false _ (c .if2 .left)) ∙ c .before .is-word .ensures _ (ap fieldValue (c .before .before .before .field .ensures) ∙ v .first)
 
 -- the field's mode ..
 mode : (c : tie.After-mode-of) → modeRead (c .mode-of .result) ≡ readMode 1 (valued (c .before .before .before .before .before .before) .0 .second)
@@ -44,16 +44,9 @@ allowance c =
     let v = valued (c .before .before .before .before .before .before .before .before .before .before .before .before .before .before .before .before) .1 in
     c .field-in-range2 .ensures _ (ap fieldValue (c .before .field4 .ensures) ∙ v .fourth)
 
-cut-requires : tie.Need-cut-requires
-cut-requires c κs = search needs
-
 returns : tie.Need-returns
 unfolding openingRead
-returns c = sym (opening-faulty _ _ (cut-broken (c .before .before .cut .ensures) (c .if1 .taken) 1))
-
-returns-2 : tie.Need-returns-2
-unfolding openingRead
-returns-2 c = sym (opening-faulty _ _ (cut-other (c .before .before .before .before .cut .ensures) (c .before .before .if1 .left) (c .if2 .taken) 1))
+returns c = sym (opening-faulty _ _ (cut-other (c .before .before .before .pre) (c .if1 .taken) 1))
 
 field-requires : tie.Need-field-requires
 field-requires c κs = search needs
@@ -65,11 +58,11 @@ is-word-requires : tie.Need-is-word-requires
 unfolding holdsQuote
 is-word-requires c κs = refl
 
-returns-3 : tie.Need-returns-3
+returns-2 : tie.Need-returns-2
 unfolding openingRead ascii
-returns-3 c =
+returns-2 c =
     let v = valued (c .before .before .before .before) .1 in
-    sym (opening-kind v (sym (not-true _ (c .if3 .taken)) ∙ c .before .is-word .ensures _ (ap fieldValue (c .before .before .before .field .ensures) ∙ v .first)))
+    sym (opening-kind v (sym (not-true _ (c .if2 .taken)) ∙ c .before .is-word .ensures _ (ap fieldValue (c .before .before .before .field .ensures) ∙ v .first)))
 
 field-requires-2 : tie.Need-field-requires-2
 field-requires-2 c κs = search needs
@@ -83,9 +76,9 @@ enum-known-word c = search needs
 enum-told : tie.Need-enum-told
 enum-told c = search needs
 
-returns-4 : tie.Need-returns-4
+returns-3 : tie.Need-returns-3
 unfolding openingRead
-returns-4 c =
+returns-3 c =
     let third = c .before .before .before .before in
     let v = valued (third .before .before .before .before) .1 in
     sym (opening-mode v (kind third) (ap modeRead (sym (c .enum-told .given .1)) ∙ mode (c .before .before)))
@@ -102,9 +95,9 @@ enum-known-third c = search needs
 enum-told-2 : tie.Need-enum-told-2
 enum-told-2 c = search needs
 
-returns-5 : tie.Need-returns-5
+returns-4 : tie.Need-returns-4
 unfolding openingRead
-returns-5 c =
+returns-4 c =
     let known = c .before .before .before .before .before in
     let third = known .before .before .before .before in
     let v = valued (third .before .before .before .before) .1 in
@@ -124,9 +117,9 @@ enum-known-fourth c = search needs
 enum-told-3 : tie.Need-enum-told-3
 enum-told-3 c = search needs
 
-returns-6 : tie.Need-returns-6
+returns-5 : tie.Need-returns-5
 unfolding openingRead
-returns-6 c =
+returns-5 c =
     let second = c .before .before .before .before .before in
     let known = second .before .before .before .before .before in
     let third = known .before .before .before .before in
@@ -135,9 +128,9 @@ returns-6 c =
     (opening-allowance v (kind third) _ (ap modeRead (sym (known .word .given .1)) ∙ mode (known .before .before))
     (sym (second .third .given .1) ∙ minutes (second .before .before)) (sym (c .enum-told3 .given .1) ∙ allowance (c .before .before)))
 
-returns-7 : tie.Need-returns-7
+returns-6 : tie.Need-returns-6
 unfolding openingRead
-returns-7 c =
+returns-6 c =
     let last = c .before in
     let second = last .before .before .before .before .before in
     let known = second .before .before .before .before .before in
@@ -151,26 +144,24 @@ pub read-spec : {M : Type 1} → statement M
 read-spec =
     tie.close
     (tie.spec
-    cut-requires
     returns
-    returns-2
     field-requires
     slice-aggregate-is-word
     is-word-requires
-    returns-3
+    returns-2
     field-requires-2
     mode-of-requires
     enum-known-word
     enum-told
-    returns-4
+    returns-3
     field-requires-3
     field-in-range-requires
     enum-known-third
     enum-told-2
-    returns-5
+    returns-4
     field-requires-4
     field-in-range-requires-2
     enum-known-fourth
     enum-told-3
-    returns-6
-    returns-7)
+    returns-5
+    returns-6)

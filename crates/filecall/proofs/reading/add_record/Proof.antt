@@ -8,14 +8,14 @@ use Rattle.csv.specs.Spans.{holdsQuote}
 use Rattle.csv.specs.Text.{ascii}
 use Rattle.planfile.specs.Reading.{same, FourFields}
 use Rattle.filecall.specs.Items.{Columns, Adds}
-use Rattle.filecall.specs.Laws.FourFields.{Valued, cut-broken, cut-other, cut-four}
+use Rattle.filecall.specs.Laws.FourFields.{Valued, cut-other, cut-four}
 use Rattle.filecall.specs.Laws.PlanRead.{record-faulty, record-unknown, engine-faulty, engine-added, delivery-faulty, delivery-added}
 use Rattle.filecall.proofs.reading.add_record.Statement.{statement}
 use Rattle.filecall.proofs.reading.add_record.Tie as tie
 
 -- the four fields by their values
-valued : (c : tie.Else2) → (x : FourFields) × Valued (c .before .before .before .before .before .before .before .before .before .before .before .before .before .before .args .text .now) x
-valued c = cut-four (c .before .before .before .before .cut .ensures) (c .before .before .if1 .left) (c .if2 .left)
+valued : (c : tie.Else1) → (x : FourFields) × Valued (c .before .before .before .before .before .before .before .before .before .before .before .args .text .now) x
+valued c = cut-four (c .before .before .before .before .before .before .before .before .before .before .before .pre .0) (c .if1 .left)
 
 -- the word of the first field
 is-engine : (c : tie.After-is-word) → c .is-word .result ≡ same (valued (c .before .before .before .before .before .before) .0 .first) (ascii "engine")
@@ -65,14 +65,14 @@ deliveries-after c =
     }
 
 -- the item is added, or has a fault
-engine-adds : (c : tie.After-add) → let start = c .before .before .before .before .before .before .before .before .before .before .before .before .before .before .before .before .before .before .before .before .before .before .before .before .before .before in
+engine-adds : (c : tie.After-add) → let start = c .before .before .before .before .before .before .before .before .before .before .before .before .before .before .before .before .before .before .before .before .before .before .before in
     Adds (start .args .engines) 12 0 5000000 0 1000000000 (valued (c .before .before .before .before .before .before .before .before .before .before .before .before) .0) (engine-columns start) (engines-after c) (c .add .result)
 engine-adds c =
     let four = valued (c .before .before .before .before .before .before .before .before .before .before .before .before) in
     c .add .ensures (four .0) (ap fieldValue (c .before .before .before .before .before .before .before .before .before .before .field2 .ensures) ∙ four .1 .second) (ap fieldValue (c .before .before .before .before .before .before .before .before .before .field3 .ensures) ∙ four .1 .third)
     (ap fieldValue (c .before .before .before .before .before .before .before .before .field4 .ensures) ∙ four .1 .fourth)
 
-delivery-adds : (c : tie.After-add2) → let start = c .before .before .before .before .before .before .before .before .before .before .before .before .before .before .before .before .before .before .before .before .before .before .before .before .before .before .before .before .before in
+delivery-adds : (c : tie.After-add2) → let start = c .before .before .before .before .before .before .before .before .before .before .before .before .before .before .before .before .before .before .before .before .before .before .before .before .before .before in
     Adds (start .args .deliveries) 64 1 1000000000 1 12 (valued (c .before .before .before .before .before .before .before .before .before .before .before .before .before .before .before) .0) (delivery-columns start) (deliveries-after c) (c .add2 .result)
 delivery-adds c =
     let four = valued (c .before .before .before .before .before .before .before .before .before .before .before .before .before .before .before) in
@@ -81,22 +81,16 @@ delivery-adds c =
 
 -- the word that led there
 engine-kind : (c : tie.After-add) → true ≡ same (valued (c .before .before .before .before .before .before .before .before .before .before .before .before) .0 .first) (ascii "engine")
-engine-kind c = sym (c .before .before .before .before .before .if3 .taken) ∙ is-engine (c .before .before .before .before .before .before)
+engine-kind c = sym (c .before .before .before .before .before .if2 .taken) ∙ is-engine (c .before .before .before .before .before .before)
 
 other-kind : (c : tie.After-add2) → false ≡ same (valued (c .before .before .before .before .before .before .before .before .before .before .before .before .before .before .before) .0 .first) (ascii "engine")
-other-kind c = sym (c .before .before .before .before .before .before .before .before .if3 .left) ∙ is-engine (c .before .before .before .before .before .before .before .before .before)
+other-kind c = sym (c .before .before .before .before .before .before .before .before .if2 .left) ∙ is-engine (c .before .before .before .before .before .before .before .before .before)
 
 delivery-kind : (c : tie.After-add2) → true ≡ same (valued (c .before .before .before .before .before .before .before .before .before .before .before .before .before .before .before) .0 .first) (ascii "delivery")
-delivery-kind c = sym (c .before .before .before .before .before .if4 .taken) ∙ is-delivery (c .before .before .before .before .before .before)
-
-cut-requires : tie.Need-cut-requires
-cut-requires c κs = search needs
+delivery-kind c = sym (c .before .before .before .before .before .if3 .taken) ∙ is-delivery (c .before .before .before .before .before .before)
 
 returns : tie.Need-returns
-returns c = record-faulty _ _ _ _ _ _ _ _ (cut-broken (c .before .before .cut .ensures) (c .if1 .taken))
-
-returns-2 : tie.Need-returns-2
-returns-2 c = record-faulty _ _ _ _ _ _ _ _ (cut-other (c .before .before .before .before .cut .ensures) (c .before .before .if1 .left) (c .if2 .taken))
+returns c = record-faulty _ _ (cut-other (c .before .before .before .before .before .before .before .before .before .before .before .pre .0) (c .if1 .taken)) _ _ _ _ _ _
 
 field-requires : tie.Need-field-requires
 field-requires c κs = search needs
@@ -118,7 +112,7 @@ unfolding holdsQuote
 is-word-requires c κs = refl
 
 add-requires : tie.Need-add-requires
-add-requires c κs = (c .before .before .before .before .before .before .before .before .before .before .before .before .before .before .before .before .before .before .before .before .before .before .before .before .before .pre .0, omega arith, omega arith)
+add-requires c κs = (c .before .before .before .before .before .before .before .before .before .before .before .before .before .before .before .before .before .before .before .before .before .before .pre .1, omega arith, omega arith)
 
 enum-told : tie.Need-enum-told
 enum-told c = search needs
@@ -138,12 +132,12 @@ same-length-3 c = search needs
 same-length-4 : tie.Need-same-length-4
 same-length-4 c = search needs
 
-returns-3 : tie.Need-returns-3
-returns-3 c =
+returns-2 : tie.Need-returns-2
+returns-2 c =
     let call = c .before .before .before .before .before .before .before .before .before .before in
-    let start = call .before .before .before .before .before .before .before .before .before .before .before .before .before .before .before .before .before .before .before .before .before .before .before .before .before .before in
+    let start = call .before .before .before .before .before .before .before .before .before .before .before .before .before .before .before .before .before .before .before .before .before .before .before in
     engine-added (valued (call .before .before .before .before .before .before .before .before .before .before .before .before) .1) (start .args .engines) (start .args .deliveries) (engine-columns start) (delivery-columns start) (engines-after call)
-    (delivery-columns start) (engine-kind call) (rw (c .enum-told .given .1) at (engine-adds call)) (start .pre .1)
+    (delivery-columns start) (engine-kind call) (rw (c .enum-told .given .1) at (engine-adds call)) (start .pre .2)
 
 same-length-5 : tie.Need-same-length-5
 same-length-5 c = search needs
@@ -157,10 +151,10 @@ same-length-7 c = search needs
 same-length-8 : tie.Need-same-length-8
 same-length-8 c = search needs
 
-returns-4 : tie.Need-returns-4
-returns-4 c =
+returns-3 : tie.Need-returns-3
+returns-3 c =
     let call = c .before .before .before .before .before .before .before .before .before .before .before in
-    let start = call .before .before .before .before .before .before .before .before .before .before .before .before .before .before .before .before .before .before .before .before .before .before .before .before .before .before in
+    let start = call .before .before .before .before .before .before .before .before .before .before .before .before .before .before .before .before .before .before .before .before .before .before .before in
     engine-faulty (valued (call .before .before .before .before .before .before .before .before .before .before .before .before) .1) (start .args .engines) (start .args .deliveries) (engine-columns start) (delivery-columns start) (engines-after call)
     (delivery-columns start) (engine-kind call) _ (rw (c .before .verdict .given .1) at (engine-adds call))
 
@@ -172,7 +166,7 @@ unfolding holdsQuote
 is-word-requires-2 c κs = refl
 
 add-requires-2 : tie.Need-add-requires-2
-add-requires-2 c κs = (c .before .before .before .before .before .before .before .before .before .before .before .before .before .before .before .before .before .before .before .before .before .before .before .before .before .before .before .before .pre .1, omega arith, omega arith)
+add-requires-2 c κs = (c .before .before .before .before .before .before .before .before .before .before .before .before .before .before .before .before .before .before .before .before .before .before .before .before .before .pre .2, omega arith, omega arith)
 
 enum-told-2 : tie.Need-enum-told-2
 enum-told-2 c = search needs
@@ -192,12 +186,12 @@ same-length-11 c = search needs
 same-length-12 : tie.Need-same-length-12
 same-length-12 c = search needs
 
-returns-5 : tie.Need-returns-5
-returns-5 c =
+returns-4 : tie.Need-returns-4
+returns-4 c =
     let call = c .before .before .before .before .before .before .before .before .before .before in
-    let start = call .before .before .before .before .before .before .before .before .before .before .before .before .before .before .before .before .before .before .before .before .before .before .before .before .before .before .before .before .before in
+    let start = call .before .before .before .before .before .before .before .before .before .before .before .before .before .before .before .before .before .before .before .before .before .before .before .before .before .before in
     delivery-added (valued (call .before .before .before .before .before .before .before .before .before .before .before .before .before .before .before) .1) (start .args .engines) (start .args .deliveries) (engine-columns start) (delivery-columns start) (engine-columns start)
-    (deliveries-after call) (other-kind call) (delivery-kind call) (rw (c .enum-told2 .given .1) at (delivery-adds call)) (start .pre .0)
+    (deliveries-after call) (other-kind call) (delivery-kind call) (rw (c .enum-told2 .given .1) at (delivery-adds call)) (start .pre .1)
 
 same-length-13 : tie.Need-same-length-13
 same-length-13 c = search needs
@@ -211,24 +205,22 @@ same-length-15 c = search needs
 same-length-16 : tie.Need-same-length-16
 same-length-16 c = search needs
 
-returns-6 : tie.Need-returns-6
-returns-6 c =
+returns-5 : tie.Need-returns-5
+returns-5 c =
     let call = c .before .before .before .before .before .before .before .before .before .before .before in
-    let start = call .before .before .before .before .before .before .before .before .before .before .before .before .before .before .before .before .before .before .before .before .before .before .before .before .before .before .before .before .before in
+    let start = call .before .before .before .before .before .before .before .before .before .before .before .before .before .before .before .before .before .before .before .before .before .before .before .before .before .before in
     delivery-faulty (valued (call .before .before .before .before .before .before .before .before .before .before .before .before .before .before .before) .1) (start .args .engines) (start .args .deliveries) (engine-columns start) (delivery-columns start) (engine-columns start)
     (deliveries-after call) (other-kind call) (delivery-kind call) _ (rw (c .before .verdict2 .given .1) at (delivery-adds call))
 
-returns-7 : tie.Need-returns-7
-returns-7 c =
-    record-unknown (valued (c .before .before .before .before .before .before .before .before .before .before) .1) _ _ _ _ _ _ (sym (c .before .before .before .if3 .left) ∙ is-engine (c .before .before .before .before)) (sym (c .if4 .left) ∙ is-delivery (c .before))
+returns-6 : tie.Need-returns-6
+returns-6 c =
+    record-unknown (valued (c .before .before .before .before .before .before .before .before .before .before) .1) _ _ _ _ _ _ (sym (c .before .before .before .if2 .left) ∙ is-engine (c .before .before .before .before)) (sym (c .if3 .left) ∙ is-delivery (c .before))
 
 pub add-record-spec : {M : Type 1} → statement M
 add-record-spec =
     tie.close
     (tie.spec
-    cut-requires
     returns
-    returns-2
     field-requires
     field-requires-2
     field-requires-3
@@ -242,12 +234,12 @@ add-record-spec =
     same-length-2
     same-length-3
     same-length-4
-    returns-3
+    returns-2
     same-length-5
     same-length-6
     same-length-7
     same-length-8
-    returns-4
+    returns-3
     slice-aggregate-is-word-2
     is-word-requires-2
     add-requires-2
@@ -257,10 +249,10 @@ add-record-spec =
     same-length-10
     same-length-11
     same-length-12
-    returns-5
+    returns-4
     same-length-13
     same-length-14
     same-length-15
     same-length-16
-    returns-6
-    returns-7)
+    returns-5
+    returns-6)
