@@ -1,25 +1,9 @@
 // Time per try of the proved allocation beside a plain Rust program with the same answers, in one process. The plain program's state is
 // handed on by value, holds 64 rests and limits, and its choice is a scan.
-#[path = "../interface/fothwen.rs"]
-#[allow(dead_code)]
-mod fothwen;
+mod plans;
 
+use plans::{plan, plans, proved, Answer, Plan};
 use std::time::Instant;
-
-struct Plan { name: &'static str, minutes: u64, allowance: u64, watts: Vec<u64>, fuels: Vec<u64>, energies: Vec<u64>, limits: Vec<u64> }
-
-#[derive(PartialEq, Debug, Clone)]
-struct Answer { word: u64, minutes: u64, tries: u64, table: Vec<u64> }
-
-fn proved(mode: u64, p: &Plan) -> Answer {
-    let mut table = vec![7u64; p.watts.len() * p.energies.len()];
-    let mut spare = vec![8u64; p.watts.len()];
-    let plan = fothwen::Plan {
-        mode, minutes: p.minutes, allowance: p.allowance, watts: &p.watts, fuels: &p.fuels, energies: &p.energies, limits: &p.limits,
-    };
-    let answer = fothwen::allocate(&plan, &mut table, &mut spare).expect("an accepted plan");
-    Answer { word: answer.outcome as u64, minutes: answer.minutes, tries: answer.tries, table }
-}
 
 mod plain {
     use super::{Answer, Plan};
@@ -121,28 +105,6 @@ mod plain {
         let (word, tries) = match ended { Ended::Found(t) => (0, t), Ended::None(t) => (1, t), Ended::Stopped(t) => (2, t) };
         Answer { word, minutes: p.minutes, tries: tries as u64, table }
     }
-}
-
-fn plan(name: &'static str, capacities: Vec<u64>, deliveries: Vec<(u64, u64)>) -> Plan {
-    Plan {
-        name, minutes: 60, allowance: 1_000_000, fuels: vec![1_000_000_000; capacities.len()], watts: capacities,
-        energies: deliveries.iter().map(|d| d.0).collect(), limits: deliveries.iter().map(|d| d.1).collect(),
-    }
-}
-
-fn plans() -> Vec<Plan> {
-    let even = |c: u64| vec![c; 12];
-    let steps: Vec<u64> = (0..12).map(|i| 900 + 17 * i).collect();
-    vec![
-        plan("13 of limit 1 on 12 engines", even(1000), vec![(900, 1); 13]),
-        plan("24 of limit 1, uneven", steps.clone(), (0..24).map(|p| (400 + 5 * p, 1)).collect()),
-        plan("40 of limit 1", even(1000), vec![(300, 1); 40]),
-        plan("64 of limit 1, tight", even(1000), vec![(187, 1); 64]),
-        plan("7 of limit 2", even(1000), vec![(1600, 2); 7]),
-        plan("limits 1 and 2 mixed", even(1000), (0..14).map(|p| if p % 2 == 0 { (700, 1) } else { (990, 2) }).collect()),
-        plan("limits 1, 2 and 3 mixed", steps.clone(), (0..15).map(|p| (760 + 2 * p, 1 + p % 3)).collect()),
-        plan("5 of limit 3, cut over", steps, vec![(2290, 3); 5]),
-    ]
 }
 
 fn nanoseconds(run: impl Fn() -> Answer) -> (f64, Answer) {
