@@ -6,8 +6,7 @@ use Prim.Native.Nat.{ℕ, _+_, _*_, _≤_, _<_}
 use lib.ListN.{length, take, drop}
 use Rattle.planning.specs.Search.{at}
 use Rattle.planfile.specs.FilePlan.{FilePlan}
-use Rattle.planfile.specs.Laws.Listed.{readItem}
-use Rattle.planfile.specs.Reading.{Read, accepted, fault, FourFields}
+use Rattle.planfile.specs.Reading.{Read, accepted, fault, FourFields, readItem}
 use Rattle.filecall.specs.declared.items.Verdict.{Verdict}
 use Rattle.filecall.specs.declared.items.Verdict.the-variants.{Sound, Fault}
 use Rattle.filecall.specs.Parts.{tabulated, nameList}

@@ -4,8 +4,7 @@ use mathlib.Core.List.{List}
 use Prim.Native.Nat.{ℕ}
 use Rattle.planning.specs.declared.Fault.the-variants.{Value}
 use Rattle.planning.specs.declared.Mode.{Mode}
-use Rattle.planfile.specs.FilePlan.{FilePlan}
-use Rattle.planfile.specs.Laws.Reading.{begun}
+use Rattle.planfile.specs.FilePlan.{FilePlan, begun}
 use Rattle.planfile.specs.Reading.{Read, accepted, fault, fieldsOf, readPlan, _>>=_}
 use Rattle.filecall.specs.declared.opening.ModeField.{ModeField}
 use Rattle.filecall.specs.declared.opening.ModeField.the-variants as field

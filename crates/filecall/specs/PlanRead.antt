@@ -10,9 +10,7 @@ use Rattle.planning.specs.declared.Fault.{Fault}
 use Rattle.planning.specs.declared.Fault.the-variants.{NoEngine}
 use Rattle.planning.specs.declared.Mode.{Mode}
 use Rattle.planning.specs.Bounds.{mostEngines, mostDeliveries}
-use Rattle.planfile.specs.FilePlan.{FilePlan}
-use Rattle.planfile.specs.Laws.Reading.{begun}
-use Rattle.planfile.specs.Laws.Records.{engineOf, deliveryOf}
+use Rattle.planfile.specs.FilePlan.{FilePlan, begun, engineOf, deliveryOf}
 use Rattle.planfile.specs.Reading.{Read, refused, accepted, fault, require, fieldsOf, readRecord, readRecords, _>>=_}
 use Rattle.filecall.specs.declared.reading.Added.{Added}
 use Rattle.filecall.specs.declared.reading.Added.the-variants as added
@@ -72,8 +70,8 @@ ReadBy (refused refusal) r = r .verdict ≡ Refused refusal
 ReadBy (accepted f) r = (r .verdict ≡ Accepted) × IsPlan f (r .plan)
 
 -- 8 after the last record
-unfoldable pub withEngine : Read FilePlan → Read FilePlan
-withEngine m = do
+unfoldable pub requireEngine : Read FilePlan → Read FilePlan
+requireEngine m = do
   f ← m
   _ ← require (leb 1 (length (f .engines))) NoEngine 0
   accepted f
@@ -93,4 +91,4 @@ ItemsBy (accepted f) mode minutes allowance e d r =
 unfoldable pub ItemsRead : (file : List ℕ) → (start : ℕ) → (e d : Columns) → Items → Type 0
 ItemsRead file start e d r =
     (mode : Mode) (minutes allowance n : ℕ) → length (drop start file) ≤ n
-    → ItemsBy (withEngine (readRecords (begun mode minutes allowance) 2 (furtherRecords n (drop start file)))) mode minutes allowance e d r
+    → ItemsBy (requireEngine (readRecords (begun mode minutes allowance) 2 (furtherRecords n (drop start file)))) mode minutes allowance e d r

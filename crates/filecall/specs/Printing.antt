@@ -13,9 +13,8 @@ use Rattle.planning.specs.declared.Outcome.the-variants.{Found, None, Stopped}
 use Rattle.planning.specs.Modes.{pieceIn}
 use Rattle.planning.specs.Plan.{All}
 use Rattle.planning.specs.Search.{at}
-use Rattle.planfile.specs.Laws.PieceLines.{lineOf}
 use Rattle.planfile.specs.Numerals.{decimal}
-use Rattle.planfile.specs.Print.{Line, rowLines, pieceLines, answerLine}
+use Rattle.planfile.specs.Print.{Line, rowLines, pieceLines, answerLine, lineOf}
 use Rattle.filecall.specs.Parts.{nameList}
 
 -- an output with some bytes in the place of those that stood from a place on

@@ -13,8 +13,8 @@ ghost use Rattle.csv.specs.Records.{furtherRecords};
 ghost use Rattle.planfile.specs.Reading.{fault as faultAt, readRecords, readFile};
 ghost use Rattle.filecall.specs.Items.{Columns, Holding};
 ghost use Rattle.filecall.specs.Parts.{IsCut};
-ghost use Rattle.planfile.specs.Laws.Reading.{begun};
-ghost use Rattle.filecall.specs.PlanRead.{AddsRecord, ItemsRead, ReadBy, refusedItems, withEngine};
+ghost use Rattle.planfile.specs.FilePlan.{begun};
+ghost use Rattle.filecall.specs.PlanRead.{AddsRecord, ItemsRead, ReadBy, refusedItems, requireEngine};
 
 // A plan by value: its engines and its deliveries as columns, filled from the front. A name has 16 bytes, of which the first so many count.
 pub(crate) struct Plan {
@@ -251,7 +251,7 @@ fn read_items(file: &[u8], start: usize, mode: Mode, minutes: u64, allowance: u6
     requires { ⌜ length (now file) ≤ 32768 ⌝ }
     ensures { λ r. ⌜
         ((n : ℕ) → length (drop start (now (file .entry))) ≤ n
-        → ReadBy (withEngine (readRecords (begun mode minutes allowance) 2 (furtherRecords n (drop start (now (file .entry)))))) r)
+        → ReadBy (requireEngine (readRecords (begun mode minutes allowance) 2 (furtherRecords n (drop start (now (file .entry)))))) r)
         ⌝ }
 {
     let mut engine_names = [0u8; 192];

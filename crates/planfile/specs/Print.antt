@@ -24,10 +24,14 @@ wordOf Found = ascii "found"
 wordOf None = ascii "none"
 wordOf Stopped = ascii "stopped"
 
--- "delivery, engine, Wh", for a piece above 0
+-- "delivery, engine, Wh", the number as text
+abbrev pub lineOf : (delivery engine text : List ℕ) → Line
+lineOf delivery engine text = ascii "piece" ∷ delivery ∷ engine ∷ text ∷ []
+
+-- for a piece above 0
 unfoldable pub pieceLine : (delivery engine : List ℕ) → (piece : ℕ) → List Line
 pieceLine delivery engine zero = []
-pieceLine delivery engine (suc n) = (ascii "piece" ∷ delivery ∷ engine ∷ decimal (suc n) ∷ []) ∷ []
+pieceLine delivery engine (suc n) = lineOf delivery engine (decimal (suc n)) ∷ []
 
 -- the lines of a delivery, by the names, in file order of engines; x i is its piece of engine i
 unfoldable pub rowLines : (delivery : List ℕ) → (engines : List (List ℕ)) → (x : ℕ → ℕ) → List Line

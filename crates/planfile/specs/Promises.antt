@@ -24,12 +24,10 @@ use Rattle.planning.specs.Sum.{sum, positives}
 use Rattle.planfile.specs.declared.FileAnswer.{FileAnswer}
 use Rattle.planfile.specs.declared.FileAnswer.the-variants.{Printed, Refused}
 use Rattle.planfile.specs.FileCall.{FileCall, printed, programPrint}
-use Rattle.planfile.specs.FilePlan.{FilePlan, unnamed, engineNames, deliveryNames}
+use Rattle.planfile.specs.FilePlan.{FilePlan, unnamed, engineNames, deliveryNames, nameAt}
 use Rattle.planfile.specs.Holding.{Holds}
-use Rattle.planfile.specs.Laws.PieceLines.{lineOf}
-use Rattle.planfile.specs.Laws.ReadBack.{nameAt}
 use Rattle.planfile.specs.Numerals.{Numeral, decimal}
-use Rattle.planfile.specs.Print.{Line, wordOf, linesOf, refusalPrint}
+use Rattle.planfile.specs.Print.{Line, wordOf, linesOf, refusalPrint, lineOf}
 
 -- "a piece table of deliveries × engines (a row for each delivery ..)": how many numbers of the lent table are the plan's
 abbrev pub planCells : FilePlan → ℕ

@@ -4,7 +4,7 @@
 -- Assumes nothing.
 use Prim.Native.Nat.{ℕ, zero, suc, _+_}
 use mathlib.Core.Bool.{Bool, true, false, not, _&&_}
-use mathlib.Core.List.{List, [], _∷_, _++_}
+use mathlib.Core.List.{List, [], _∷_, map}
 use mathlib.Core.Option.{Option, none, some}
 use lib.ListN.{length}
 use lib.Dec.{leb, ltb, eqb}
@@ -19,7 +19,7 @@ use Rattle.planning.specs.declared.Refusal.{Refusal}
 use Rattle.planning.specs.Bounds.{mostEngines, mostDeliveries, mostMinutes, mostTries, mostWatts, mostFuel, mostEnergy, mostLimit}
 use Rattle.planning.specs.Numbers.{within}
 use Rattle.planfile.specs.Bounds.{mostBytes, mostNameBytes, leastNameByte, mostNameByte}
-use Rattle.planfile.specs.FilePlan.{FilePlan, engineNames, deliveryNames}
+use Rattle.planfile.specs.FilePlan.{FilePlan, NamedEngine, NamedDelivery, engineOf, deliveryOf, begun, withEngine, withDelivery}
 use Rattle.planfile.specs.Numerals.{numberOf}
 
 -- what reading comes to: a value, or a refusal
@@ -111,39 +111,29 @@ readPlan x = do
   mode ← readMode 1 (x .second)
   minutes ← readNumber 1 mostMinutes 1 (x .third)
   allowance ← readNumber 0 mostTries 1 (x .fourth)
-  accepted (record { mode = mode; minutes = minutes; allowance = allowance; engines = []; deliveries = [] })
+  accepted (begun mode minutes allowance)
 
--- an engine behind the plan so far: 7 for "a 13th engine", then its fields from the left
+-- an item of a name and two numbers behind the items so far: 7 where there are the most of them, then its fields from the left
+unfoldable pub readItem : {A : Type 0} → (name : A → List ℕ) → (most low high low′ high′ : ℕ) → (items : List A) → (r : ℕ) → FourFields
+    → (after : ℕ → ℕ → FilePlan) → Read FilePlan
+readItem name most low high low′ high′ items r x after = do
+  _ ← require (ltb (length items) most) Count r
+  _ ← require (soundName (x .second) && unused (x .second) (map name items)) Name r
+  n ← readNumber low high r (x .third)
+  m ← readNumber low′ high′ r (x .fourth)
+  accepted (after n m)
+
+-- an engine, and 7 for "a 13th engine"
 unfoldable pub readEngine : FilePlan → (r : ℕ) → FourFields → Read FilePlan
-readEngine f r x = do
-  _ ← require (ltb (length (f .engines)) mostEngines) Count r
-  _ ← require (soundName (x .second) && unused (x .second) (engineNames f)) Name r
-  watts ← readNumber 0 mostWatts r (x .third)
-  fuel ← readNumber 0 mostFuel r (x .fourth)
-  accepted
-      (record {
-        mode = f .mode;
-        minutes = f .minutes;
-        allowance = f .allowance;
-        engines = f .engines ++ record { name = x .second; engine = record { watts = watts; fuel = fuel } } ∷ [];
-        deliveries = f .deliveries;
-      })
+readEngine f r x =
+    readItem (λ (e : NamedEngine). e .name) mostEngines 0 mostWatts 0 mostFuel (f .engines) r x
+    (λ watts fuel. withEngine f (engineOf (x .second) watts fuel))
 
--- a delivery behind the plan so far: 7 for a "65th delivery", then its fields from the left
+-- a delivery, and 7 for a "65th delivery"
 unfoldable pub readDelivery : FilePlan → (r : ℕ) → FourFields → Read FilePlan
-readDelivery f r x = do
-  _ ← require (ltb (length (f .deliveries)) mostDeliveries) Count r
-  _ ← require (soundName (x .second) && unused (x .second) (deliveryNames f)) Name r
-  energy ← readNumber 1 mostEnergy r (x .third)
-  limit ← readNumber 1 mostLimit r (x .fourth)
-  accepted
-      (record {
-        mode = f .mode;
-        minutes = f .minutes;
-        allowance = f .allowance;
-        engines = f .engines;
-        deliveries = f .deliveries ++ record { name = x .second; delivery = record { energy = energy; limit = limit } } ∷ [];
-      })
+readDelivery f r x =
+    readItem (λ (d : NamedDelivery). d .name) mostDeliveries 1 mostEnergy 1 mostLimit (f .deliveries) r x
+    (λ energy limit. withDelivery f (deliveryOf (x .second) energy limit))
 
 -- a record after record 1, by its first field: 4 for "first field unknown" and for "a plan later"
 unfoldable pub recordBy : (engine delivery : Bool) → FilePlan → (r : ℕ) → FourFields → Read FilePlan

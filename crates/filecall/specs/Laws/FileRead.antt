@@ -15,7 +15,7 @@ use Rattle.planfile.specs.FilePlan.{FilePlan}
 use Rattle.planfile.specs.Reading.{Read, refused, accepted, _>>=_, fault, require, FourFields, fieldsOf, readPlan, readRecords, readTexts, readFile}
 use Rattle.filecall.specs.Laws.Parts.{within-below, within-above, within-both}
 use Rattle.filecall.specs.Opening.{readOpening}
-use Rattle.filecall.specs.PlanRead.{withEngine}
+use Rattle.filecall.specs.PlanRead.{requireEngine}
 
 -- 1
 pub file-empty : (file : List ℕ) → length file ≡ 0 → readFile file ≡ fault Size 0
@@ -39,20 +39,20 @@ module _ (file : List ℕ) (least : 1 ≤ length file) (most : length file ≤ m
   by-fields texts (accepted x) = refl
 
   file-read : readFile file
-      ≡ withEngine (_>>=_ (readOpening (firstRecord file .text)) (λ f. readRecords f 2 (furtherRecords (length file) (drop (span .next) file))))
-  unfolding readFile readTexts records readOpening withEngine require
+      ≡ requireEngine (_>>=_ (readOpening (firstRecord file .text)) (λ f. readRecords f 2 (furtherRecords (length file) (drop (span .next) file))))
+  unfolding readFile readTexts records readOpening requireEngine require
   file-read =
       unfold _>>=_ in
       rw (within-both 1 mostBytes (length file) least most, first-stands .next)
-      (ap withEngine (by-fields (furtherRecords (length file) (further (firstRecord file))) (fieldsOf 1 (firstRecord file .text))))
+      (ap requireEngine (by-fields (furtherRecords (length file) (further (firstRecord file))) (fieldsOf 1 (firstRecord file .text))))
 
   -- record 1 has a fault
   pub opening-faulty : (what : Fault) → readOpening (firstRecord file .text) ≡ fault what 1 → readFile file ≡ fault what 1
-  unfolding withEngine _>>=_ fault
+  unfolding requireEngine _>>=_ fault
   opening-faulty what e = file-read ∙ rw e
 
   -- or begins the plan
   pub opening-begins : (f : FilePlan) → readOpening (firstRecord file .text) ≡ accepted f
-      → readFile file ≡ withEngine (readRecords f 2 (furtherRecords (length file) (drop (span .next) file)))
+      → readFile file ≡ requireEngine (readRecords f 2 (furtherRecords (length file) (drop (span .next) file)))
   unfolding _>>=_
   opening-begins f e = file-read ∙ rw e

@@ -25,13 +25,12 @@ use Rattle.planning.specs.Search.{Result, found, none, stopped, at}
 use Rattle.allocation.specs.Numbers.{callOn}
 use Rattle.planfile.specs.declared.FileAnswer.the-variants.{Printed, Refused}
 use Rattle.planfile.specs.FileCall.{answerBy, onExit, printed}
-use Rattle.planfile.specs.FilePlan.{FilePlan, NamedEngine, NamedDelivery, unnamed}
+use Rattle.planfile.specs.FilePlan.{FilePlan, NamedEngine, NamedDelivery, unnamed, engineOf, deliveryOf}
 use Rattle.planfile.specs.Holding.{SoundName}
 use Rattle.planfile.specs.Laws.Holding.{engine-count, delivery-count}
 use Rattle.planfile.specs.Laws.Listed.{all-each}
 use Rattle.planfile.specs.Laws.Print.{bytes-writable}
 use Rattle.planfile.specs.Laws.PrintLength.{print-length}
-use Rattle.planfile.specs.Laws.Records.{engineOf, deliveryOf}
 use Rattle.planfile.specs.Reading.{accepted, _>>=_, fault, require}
 use Rattle.filecall.specs.HandOver.{answerIf, numbersIf, bytesIf, planBy, UsablePlan, withSpace}
 use Rattle.filecall.specs.Items.{Columns, itemsIn, Holding}

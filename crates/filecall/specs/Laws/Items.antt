@@ -14,8 +14,7 @@ use Rattle.planning.specs.declared.Fault.the-variants.{Count, Name, Value}
 use Rattle.planning.specs.Laws.Finite.Decisions.{le-or-lt}
 use Rattle.planning.specs.Search.{at}
 use Rattle.planfile.specs.FilePlan.{FilePlan}
-use Rattle.planfile.specs.Laws.Listed.{readItem}
-use Rattle.planfile.specs.Reading.{Read, accepted, _>>=_, fault, require, FourFields, soundName, unused}
+use Rattle.planfile.specs.Reading.{Read, accepted, _>>=_, fault, require, FourFields, soundName, unused, readItem}
 use Rattle.filecall.specs.declared.names.Name.{Name as NameField}
 use Rattle.filecall.specs.declared.numeral.Ranged.the-variants as ranged
 use Rattle.filecall.specs.Items.{Columns, nameIn, Holding, Appended, readNamed}

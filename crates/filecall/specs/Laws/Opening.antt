@@ -9,7 +9,7 @@ use Rattle.planning.specs.declared.Fault.the-variants.{Kind, Value}
 use Rattle.planning.specs.declared.Mode.{Mode}
 use Rattle.planning.specs.declared.Mode.the-variants.{Fixed, Shortest}
 use Rattle.planning.specs.Bounds.{mostMinutes, mostTries}
-use Rattle.planfile.specs.Laws.Reading.{begun}
+use Rattle.planfile.specs.FilePlan.{begun}
 use Rattle.planfile.specs.Reading.{accepted, _>>=_, fault, require, same, FourFields, fieldsOf, modeBy, readMode, readPlan}
 use Rattle.filecall.specs.declared.numeral.Ranged.the-variants as ranged
 use Rattle.filecall.specs.declared.opening.ModeField.the-variants as field

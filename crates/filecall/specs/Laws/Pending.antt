@@ -12,8 +12,7 @@ use Rattle.planning.specs.declared.Fault.{Fault}
 use Rattle.planning.specs.declared.Fault.the-variants.{NoEngine}
 use Rattle.planning.specs.declared.Mode.{Mode}
 use Rattle.planning.specs.Bounds.{mostEngines, mostDeliveries}
-use Rattle.planfile.specs.FilePlan.{FilePlan}
-use Rattle.planfile.specs.Laws.Reading.{begun}
+use Rattle.planfile.specs.FilePlan.{FilePlan, begun}
 use Rattle.planfile.specs.Reading.{Read, refused, accepted, _>>=_, fault, require, readRecords}
 use Rattle.filecall.specs.declared.reading.Items.{Items}
 use Rattle.filecall.specs.declared.reading.Plan.{Plan}
@@ -22,7 +21,7 @@ use Rattle.filecall.specs.Items.{Columns, Holding, itemsIn}
 use Rattle.filecall.specs.Laws.Tabulated.{length-tabulated}
 use Rattle.filecall.specs.Laws.PlanRead.{records-refused, records-added}
 use Rattle.filecall.specs.Parts.{tabulated}
-use Rattle.filecall.specs.PlanRead.{planIn, readText, engineColumns, deliveryColumns, ReadBy, withEngine, refusedItems, ItemsBy, ItemsRead}
+use Rattle.filecall.specs.PlanRead.{planIn, readText, engineColumns, deliveryColumns, ReadBy, requireEngine, refusedItems, ItemsBy, ItemsRead}
 
 -- what the records from a place on are read as: those from the start are read as those from here, behind the columns so far
 pub record Pending (file : List ℕ) (start engines deliveries : ℕ) (e d : Columns) (from place : ℕ) : Type 0 where
@@ -109,8 +108,8 @@ module _ {file : List ℕ} {start engines deliveries : ℕ} {e d : Columns} {fro
 
 -- ---- 8 after the last record
 
-pub engine-faulty : (m : Read FilePlan) (what : Fault) (r : ℕ) → m ≡ fault what r → withEngine m ≡ fault what r
-unfolding withEngine _>>=_ fault
+pub engine-faulty : (m : Read FilePlan) (what : Fault) (r : ℕ) → m ≡ fault what r → requireEngine m ≡ fault what r
+unfolding requireEngine _>>=_ fault
 engine-faulty m what r e = rw e
 
 module _ (m : Read FilePlan) (mode : Mode) (minutes allowance engines deliveries : ℕ) (e d : Columns)
@@ -119,12 +118,12 @@ module _ (m : Read FilePlan) (mode : Mode) (minutes allowance engines deliveries
   unfolding itemsIn
   engine-count = length-tabulated engines _
 
-  engine-missing : engines ≡ 0 → withEngine m ≡ fault NoEngine 0
-  unfolding withEngine _>>=_ require fault
+  engine-missing : engines ≡ 0 → requireEngine m ≡ fault NoEngine 0
+  unfolding requireEngine _>>=_ require fault
   engine-missing z = rw (read, lt-leb 1 (length (planIn mode minutes allowance engines deliveries e d .engines)) (omega (arith, engine-count)))
 
-  engine-present : 1 ≤ engines → withEngine m ≡ accepted (planIn mode minutes allowance engines deliveries e d)
-  unfolding withEngine _>>=_ require fault
+  engine-present : 1 ≤ engines → requireEngine m ≡ accepted (planIn mode minutes allowance engines deliveries e d)
+  unfolding requireEngine _>>=_ require fault
   engine-present z = rw (read, le-leb 1 (length (planIn mode minutes allowance engines deliveries e d .engines)) (omega (arith, engine-count)))
 
 -- ---- the items
@@ -133,7 +132,7 @@ module _ (file : List ℕ) (start : ℕ) (e′ d′ : Columns) where
   -- a refusal, whatever the columns hold
   items-refused : (what : Fault) (place : ℕ)
       → ((mode : Mode) (minutes allowance n : ℕ) → length (drop start file) ≤ n
-      → withEngine (readRecords (begun mode minutes allowance) 2 (furtherRecords n (drop start file))) ≡ fault what place)
+      → requireEngine (readRecords (begun mode minutes allowance) 2 (furtherRecords n (drop start file))) ≡ fault what place)
       → ItemsRead file start e′ d′ (refusedItems what place)
   unfolding ItemsRead ItemsBy refusedItems fault
   items-refused what place h mode minutes allowance n l = rw (h mode minutes allowance n l)

@@ -9,10 +9,8 @@ use Rattle.csv.specs.Text.{ascii}
 use Rattle.planning.specs.declared.Fault.{Fault}
 use Rattle.planning.specs.declared.Fault.the-variants.{Kind}
 use Rattle.planning.specs.Bounds.{mostEngines, mostDeliveries, mostWatts, mostFuel, mostEnergy, mostLimit}
-use Rattle.planfile.specs.FilePlan.{FilePlan, NamedEngine, NamedDelivery}
-use Rattle.planfile.specs.Laws.Listed.{readItem}
-use Rattle.planfile.specs.Laws.Records.{engineOf, deliveryOf}
-use Rattle.planfile.specs.Reading.{Read, refused, accepted, _>>=_, fault, same, FourFields, fieldsOf, readEngine, readDelivery, recordBy, readRecord, readRecords}
+use Rattle.planfile.specs.FilePlan.{FilePlan, NamedEngine, NamedDelivery, engineOf, deliveryOf}
+use Rattle.planfile.specs.Reading.{Read, refused, accepted, _>>=_, fault, same, FourFields, fieldsOf, readEngine, readDelivery, recordBy, readRecord, readRecords, readItem}
 use Rattle.filecall.specs.declared.items.Verdict.the-variants as verdict
 use Rattle.filecall.specs.declared.reading.Added.the-variants as added
 use Rattle.filecall.specs.Items.{Columns, nameIn, itemsIn, Holding, Appended, readNamed, Adds}

@@ -15,7 +15,7 @@ use Rattle.planfile.specs.FileCall.{FileCall, printed, readCall, answerB
 use Rattle.planfile.specs.FilePlan.{unnamed}
 use Rattle.planfile.specs.Numerals.{valueBehind, allDigits, numberOf, decimalWithin, decimal}
 use Rattle.planfile.specs.Print.{wordOf, pieceLine, rowLines, pieceLines, linesOf, answerLines, printOf, refusalPrint}
-use Rattle.planfile.specs.Reading.{_>>=_, fault, require, same, fourOf, unlessBroken, fieldsOf, modeBy, readMode, numberBy, readNumber, nameBytes, soundName, unused, readPlan, readEngine, readDelivery, recordBy, readRecord, readRecords, readTexts, readFile}
+use Rattle.planfile.specs.Reading.{_>>=_, fault, require, same, fourOf, unlessBroken, fieldsOf, modeBy, readMode, numberBy, readNumber, nameBytes, soundName, unused, readPlan, readItem, readEngine, readDelivery, recordBy, readRecord, readRecords, readTexts, readFile}
 
 -- a file and what the program prints for it
 pub record Example : Type 0 where
@@ -28,7 +28,7 @@ example file print = record { file = ascii file; print = ascii print }
 
 -- each example of a list is what the definitions make of its file
 unfoldable pub printedAll : List Example → List Example
-unfolding evaluated fieldValues records writtenFile within faultNumber printed programBy programPrint unnamed valueBehind allDigits numberOf decimalWithin decimal wordOf pieceLine rowLines pieceLines linesOf answerLines printOf refusalPrint _>>=_ fault require same fourOf unlessBroken fieldsOf modeBy readMode numberBy readNumber nameBytes soundName unused readPlan readEngine readDelivery recordBy readRecord readRecords readTexts readFile ascii
+unfolding evaluated fieldValues records writtenFile within faultNumber printed programBy programPrint unnamed valueBehind allDigits numberOf decimalWithin decimal wordOf pieceLine rowLines pieceLines linesOf answerLines printOf refusalPrint _>>=_ fault require same fourOf unlessBroken fieldsOf modeBy readMode numberBy readNumber nameBytes soundName unused readPlan readItem readEngine readDelivery recordBy readRecord readRecords readTexts readFile ascii
 printedAll examples = map (λ (e : Example). record { file = e .file; print = programPrint (e .file) }) examples
 
 -- a call with a file, what it returns, and what the lent tables and the output then hold

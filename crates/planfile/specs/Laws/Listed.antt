@@ -15,7 +15,7 @@ use Rattle.planning.specs.Laws.Numbers.{ltb-iff}
 use Rattle.planfile.specs.FilePlan.{FilePlan}
 use Rattle.planfile.specs.Holding.{SoundName, Unlike}
 use Rattle.planfile.specs.Numerals.{Numeral}
-use Rattle.planfile.specs.Reading.{Read, accepted, _>>=_, require, FourFields, readNumber, soundName, unused}
+use Rattle.planfile.specs.Reading.{accepted, FourFields, readItem}
 use Rattle.planfile.specs.Laws.Tests.{sound-name-iff, unused-iff, accepted-iff, bind-iff, require-iff, read-number-iff}
 
 -- ---- lists one behind the other
@@ -70,17 +70,7 @@ record Joins {A B : Type 0} (name : A → List ℕ) (content : A → B) (Fits : 
   named : SoundName (name item)
   unused : All (λ other. name item ≡ other → ⊥) (map name items)
 
--- the reading of an item of two numbers behind the items so far, as `readEngine` and `readDelivery` have it
-unfoldable pub readItem : {A : Type 0} → (name : A → List ℕ) → (most low high low′ high′ : ℕ) → List A → (r : ℕ) → FourFields
-    → (ℕ → ℕ → FilePlan) → Read FilePlan
-readItem name most low high low′ high′ items r x after = do
-  _ ← require (ltb (length items) most) Count r
-  _ ← require (soundName (x .second) && unused (x .second) (map name items)) Name r
-  n ← readNumber low high r (x .third)
-  m ← readNumber low′ high′ r (x .fourth)
-  accepted (after n m)
-
--- it is accepted where there is room, the name is sound and not used, and two numerals stand for numbers in range
+-- an item is accepted where there is room, the name is sound and not used, and two numerals stand for numbers in range
 read-item-iff : {A : Type 0} (name : A → List ℕ) (most low high low′ high′ : ℕ) (items : List A) (r : ℕ) (x : FourFields)
     (after : ℕ → ℕ → FilePlan) (g : FilePlan) → (readItem name most low high low′ high′ items r x after ≡ accepted g)
     ↔ ((length items < most)

@@ -15,11 +15,7 @@ use Rattle.planning.specs.Sum.{sum, sgn, positives}
 use Rattle.planfile.specs.FilePlan.{FilePlan, NamedEngine, NamedDelivery, engineNames, deliveryNames}
 use Rattle.planfile.specs.Laws.Listed.{all-append}
 use Rattle.planfile.specs.Numerals.{decimal}
-use Rattle.planfile.specs.Print.{Line, pieceLine, rowLines, pieceLines, linesOf}
-
--- a line of a piece, by its names and its number as text
-abbrev pub lineOf : (delivery engine text : List ℕ) → Line
-lineOf delivery engine text = ascii "piece" ∷ delivery ∷ engine ∷ text ∷ []
+use Rattle.planfile.specs.Print.{Line, lineOf, pieceLine, rowLines, pieceLines, linesOf}
 
 -- a file names as many engines and deliveries as it has
 pub engines-named : (f : FilePlan) → length (engineNames f) ≡ length (f .engines)

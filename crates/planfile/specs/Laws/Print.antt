@@ -25,9 +25,9 @@ use Rattle.planfile.specs.Bounds.{leastNameByte, mostNameByte}
 use Rattle.planfile.specs.FilePlan.{FilePlan, engineNames, deliveryNames}
 use Rattle.planfile.specs.Holding.{SoundName}
 use Rattle.planfile.specs.Laws.Decimals.{decimal-writable}
-use Rattle.planfile.specs.Laws.PieceLines.{lineOf, lines-good}
+use Rattle.planfile.specs.Laws.PieceLines.{lines-good}
 use Rattle.planfile.specs.Numerals.{decimal}
-use Rattle.planfile.specs.Print.{Line, wordOf, linesOf, answerLines, printOf, refusalPrint}
+use Rattle.planfile.specs.Print.{Line, wordOf, linesOf, answerLines, printOf, refusalPrint, lineOf}
 
 -- ---- what can be written
 

@@ -28,9 +28,9 @@ use Rattle.planfile.specs.FilePlan.{FilePlan, unnamed, engineNames, deli
 use Rattle.planfile.specs.Holding.{SoundName}
 use Rattle.planfile.specs.Laws.Decimals.{decimal-plain, decimal-length}
 use Rattle.planfile.specs.Laws.Holding.{engine-count, delivery-count}
-use Rattle.planfile.specs.Laws.PieceLines.{lineOf, engines-named, deliveries-named, lines-good, found-lines}
+use Rattle.planfile.specs.Laws.PieceLines.{engines-named, deliveries-named, lines-good, found-lines}
 use Rattle.planfile.specs.Numerals.{decimal}
-use Rattle.planfile.specs.Print.{Line, wordOf, linesOf, answerLines, printOf}
+use Rattle.planfile.specs.Print.{Line, wordOf, linesOf, answerLines, printOf, lineOf}
 
 -- ---- how long a line is
 

@@ -17,17 +17,13 @@ use Rattle.planning.specs.Modes.{Planned, outcomeOf, triesOf, pieceIn}
 use Rattle.planning.specs.Plan.{All}
 use Rattle.planning.specs.Search.{found, at, cell}
 use Rattle.planning.specs.Sum.{sum, sgn, positives}
-use Rattle.planfile.specs.FilePlan.{FilePlan, engineNames, deliveryNames}
+use Rattle.planfile.specs.FilePlan.{FilePlan, engineNames, deliveryNames, nameAt}
 use Rattle.planfile.specs.Holding.{Unlike, Holds}
 use Rattle.planfile.specs.Laws.Decimals.{numeral-iff}
 use Rattle.planfile.specs.Laws.Print.{print-reads}
-use Rattle.planfile.specs.Laws.PieceLines.{lineOf, engines-named, deliveries-named, piece-count, row-count, sum-behind, by-rows}
+use Rattle.planfile.specs.Laws.PieceLines.{engines-named, deliveries-named, piece-count, row-count, sum-behind, by-rows}
 use Rattle.planfile.specs.Numerals.{Numeral, decimal}
-use Rattle.planfile.specs.Print.{Line, wordOf, pieceLine, rowLines, pieceLines, linesOf, answerLines, printOf}
-
--- the name at a place in file order
-abbrev pub nameAt : List (List ℕ) → ℕ → List ℕ
-nameAt names p = getD names p []
+use Rattle.planfile.specs.Print.{Line, wordOf, pieceLine, rowLines, pieceLines, linesOf, answerLines, printOf, lineOf}
 
 -- ---- in order
 

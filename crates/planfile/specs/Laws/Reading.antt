@@ -12,12 +12,12 @@ use Rattle.csv.specs.Laws.Records.{and-then}
 use Rattle.planning.specs.declared.Mode.{Mode}
 use Rattle.planning.specs.Bounds.{mostMinutes, mostTries}
 use Rattle.planning.specs.Plan.{Within}
-use Rattle.planfile.specs.FilePlan.{FilePlan, NamedEngine, NamedDelivery}
+use Rattle.planfile.specs.FilePlan.{FilePlan, NamedEngine, NamedDelivery, engineOf, deliveryOf, begun, withEngine, withDelivery}
 use Rattle.planfile.specs.Holding.{modeWord, PlanRecord, plan-record, Mixture, mixture-end, mixture-engine, mixture-delivery}
 use Rattle.planfile.specs.Numerals.{Numeral}
 use Rattle.planfile.specs.Reading.{accepted, fault, FourFields, readPlan, readRecords, readTexts}
 use Rattle.planfile.specs.Laws.Listed.{listed-front}
-use Rattle.planfile.specs.Laws.Records.{fieldList, fields-iff, SoFar, withEngine, withDelivery, engineOf, deliveryOf, Added, added-engine, added-delivery, read-record-iff}
+use Rattle.planfile.specs.Laws.Records.{fieldList, fields-iff, SoFar, Added, added-engine, added-delivery, read-record-iff}
 use Rattle.planfile.specs.Laws.Tests.{same-iff, refused-not-accepted, accepted-iff, bind-iff, require-iff, read-number-iff, read-mode-iff}
 
 -- ---- the records behind a plan
@@ -218,10 +218,6 @@ read-records-iff f r (text ∷ texts) g s =
     (behind-more f text texts g)
 
 -- ---- record 1
-
--- the plan behind record 1
-abbrev pub begun : Mode → (minutes allowance : ℕ) → FilePlan
-begun mode minutes allowance = record { mode = mode; minutes = minutes; allowance = allowance; engines = []; deliveries = [] }
 
 begun-so-far : (mode : Mode) (minutes allowance : ℕ) → Within 1 mostMinutes minutes → Within 0 mostTries allowance → SoFar (begun mode minutes allowance)
 begun-so-far mode minutes allowance v w =

@@ -10,10 +10,10 @@ use Rattle.csv.specs.Fields.{fieldValues}
 use Rattle.csv.specs.Text.{ascii}
 use Rattle.planning.specs.Bounds.{mostEngines, mostDeliveries, mostMinutes, mostTries, mostWatts, mostFuel, mostEnergy, mostLimit}
 use Rattle.planning.specs.Plan.{Within, EngineInRange, DeliveryInRange}
-use Rattle.planfile.specs.FilePlan.{FilePlan, NamedEngine, NamedDelivery}
+use Rattle.planfile.specs.FilePlan.{FilePlan, NamedEngine, NamedDelivery, engineOf, deliveryOf, withEngine, withDelivery}
 use Rattle.planfile.specs.Numerals.{Numeral}
-use Rattle.planfile.specs.Reading.{accepted, fault, same, FourFields, fourOf, unlessBroken, fieldsOf, readEngine, readDelivery, recordBy, readRecord}
-use Rattle.planfile.specs.Laws.Listed.{Listed, readItem, item-iff}
+use Rattle.planfile.specs.Reading.{accepted, fault, same, FourFields, fourOf, unlessBroken, fieldsOf, readEngine, readDelivery, recordBy, readRecord, readItem}
+use Rattle.planfile.specs.Laws.Listed.{Listed, item-iff}
 use Rattle.planfile.specs.Laws.Tests.{same-iff, refused-not-accepted, accepted-iff}
 
 -- ---- four fields
@@ -58,22 +58,6 @@ pub record SoFar (f : FilePlan) : Type 0 where
   pub deliveries : Deliveries (f .deliveries)
 
 -- ---- an engine or a delivery
-
--- by its fields
-abbrev pub engineOf : List ℕ → ℕ → ℕ → NamedEngine
-engineOf name watts fuel = record { name = name; engine = record { watts = watts; fuel = fuel } }
-
-abbrev pub deliveryOf : List ℕ → ℕ → ℕ → NamedDelivery
-deliveryOf name energy limit = record { name = name; delivery = record { energy = energy; limit = limit } }
-
--- behind those of a plan
-abbrev pub withEngine : FilePlan → NamedEngine → FilePlan
-withEngine f e =
-    record { mode = f .mode; minutes = f .minutes; allowance = f .allowance; engines = f .engines ++ e ∷ []; deliveries = f .deliveries }
-
-abbrev pub withDelivery : FilePlan → NamedDelivery → FilePlan
-withDelivery f d =
-    record { mode = f .mode; minutes = f .minutes; allowance = f .allowance; engines = f .engines; deliveries = f .deliveries ++ d ∷ [] }
 
 -- an engine is read where its numbers are numerals and the engines with it keep what they have to keep; a delivery likewise
 pub read-engine-iff : (f : FilePlan) (r : ℕ) (x : FourFields) (g : FilePlan) → SoFar f → (readEngine f r x ≡ accepted g)

@@ -15,8 +15,7 @@ use Rattle.planning.specs.declared.Refusal.{Refusal}
 use Rattle.planning.specs.Plan.{Within}
 use Rattle.planfile.specs.FilePlan.{FilePlan, NamedEngine, NamedDelivery}
 use Rattle.planfile.specs.Numerals.{numberOf}
-use Rattle.planfile.specs.Reading.{Read, refused, accepted, _>>=_, fault, require, FourFields, fourOf, unlessBroken, fieldsOf, modeBy, readMode, numberBy, readNumber, readPlan, readEngine, readDelivery, recordBy, readRecord, readRecords, readTexts, readFile}
-use Rattle.planfile.specs.Laws.Listed.{readItem}
+use Rattle.planfile.specs.Reading.{Read, refused, accepted, _>>=_, fault, require, FourFields, fourOf, unlessBroken, fieldsOf, modeBy, readMode, numberBy, readNumber, readPlan, readEngine, readDelivery, recordBy, readRecord, readRecords, readTexts, readFile, readItem}
 
 -- "Each refusal returns its number and the record counted from 1 (0 for 1, 8 and 9)": the places that a fault may have in a file of
 -- so many records; no place for 9, which is not a file's fault
