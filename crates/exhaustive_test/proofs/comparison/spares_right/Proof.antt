@@ -1,0 +1,60 @@
+-- `exhaustive_test::comparison::spares_right` is safe and ends. The loop needs no invariant; its measure is what is left of the engines.
+-- Assumes nothing.
+use Prim.Native.Nat.{_-_}
+use lib.ListN.{length}
+use borrow.Author.Needs.{needs}
+use Rattle.exhaustive_test.proofs.comparison.spares_right.Statement.{statement}
+use Rattle.exhaustive_test.proofs.comparison.spares_right.Tie as tie
+
+abbrev Inv-loop : tie.InvT-loop
+Inv-loop capacities deliveries table spare i₀ i = Unit {0}
+
+abbrev μ-loop : tie.MeasureT-loop
+μ-loop capacities deliveries table spare i₀ i = length capacities - i
+
+loop-holds : tie.Need-loop-holds Inv-loop μ-loop
+loop-holds c = search needs
+
+given-requires : tie.Need-given-requires Inv-loop μ-loop
+given-requires c κs = search needs
+
+entry-requires : tie.Need-entry-requires Inv-loop μ-loop
+entry-requires c κs = search needs
+
+plus-requires : tie.Need-plus-requires Inv-loop μ-loop
+plus-requires c κs = search needs
+
+entry-requires-2 : tie.Need-entry-requires-2 Inv-loop μ-loop
+entry-requires-2 c κs = search needs
+
+returns : tie.Need-returns Inv-loop μ-loop
+returns c = search needs
+
+add-i : tie.Need-add-i Inv-loop μ-loop
+add-i c = search needs
+
+loop-less : tie.Need-loop-less Inv-loop μ-loop
+loop-less c = search needs
+
+loop-again : tie.Need-loop-again Inv-loop μ-loop
+loop-again c = search needs
+
+returns-2 : tie.Need-returns-2 Inv-loop μ-loop
+returns-2 c = search needs
+
+pub spares-right-spec : {M : Type 1} → statement M
+spares-right-spec =
+    tie.close
+    (tie.spec
+    Inv-loop
+    μ-loop
+    loop-holds
+    given-requires
+    entry-requires
+    plus-requires
+    entry-requires-2
+    returns
+    add-i
+    loop-less
+    loop-again
+    returns-2)

@@ -1,0 +1,48 @@
+-- `exhaustive_test::plans::has_tie` is safe and ends. The loop needs no invariant; its measure is what is left of the deliveries.
+-- Assumes nothing.
+use Prim.Native.Nat.{_-_}
+use lib.ListN.{length}
+use borrow.Author.Needs.{needs}
+use Rattle.exhaustive_test.proofs.plans.has_tie.Statement.{statement}
+use Rattle.exhaustive_test.proofs.plans.has_tie.Tie as tie
+
+abbrev Inv-loop : tie.InvT-loop
+Inv-loop energies limits i₀ i = Unit {0}
+
+abbrev μ-loop : tie.MeasureT-loop
+μ-loop energies limits i₀ i = length energies - i
+
+loop-holds : tie.Need-loop-holds Inv-loop μ-loop
+loop-holds c = search needs
+
+has-twin-requires : tie.Need-has-twin-requires Inv-loop μ-loop
+has-twin-requires c κs = search needs
+
+returns : tie.Need-returns Inv-loop μ-loop
+returns c = search needs
+
+add-i : tie.Need-add-i Inv-loop μ-loop
+add-i c = search needs
+
+loop-less : tie.Need-loop-less Inv-loop μ-loop
+loop-less c = search needs
+
+loop-again : tie.Need-loop-again Inv-loop μ-loop
+loop-again c = search needs
+
+returns-2 : tie.Need-returns-2 Inv-loop μ-loop
+returns-2 c = search needs
+
+pub has-tie-spec : {M : Type 1} → statement M
+has-tie-spec =
+    tie.close
+    (tie.spec
+    Inv-loop
+    μ-loop
+    loop-holds
+    has-twin-requires
+    returns
+    add-i
+    loop-less
+    loop-again
+    returns-2)
