@@ -16,4 +16,5 @@ pub mod Stores
 pub mod Bounds
 pub mod RoundTrip
 pub mod Reader
+pub mod ReaderSteps
 pub mod FieldReads

@@ -4,7 +4,7 @@ use mathlib.Core.Logic.{⊎-elim}
 use native.Mathlib.Omega.{arith}
 use borrow.Author.Needs.{needs}
 use Rattle.csv.specs.Spans.{beforeComma, beforeRecordEnd, withFile}
-use Rattle.csv.specs.Laws.Reader.{ends-with-file, ends-at-comma, ends-at-record-end, ends-alone, ends-nowhere}
+use Rattle.csv.specs.Laws.ReaderSteps.{ends-with-file, ends-at-comma, ends-at-record-end, ends-alone, ends-nowhere}
 use Rattle.csv.proofs.reader.ended.Statement.{statement}
 use Rattle.csv.proofs.reader.ended.Tie as tie
 

@@ -1,7 +1,7 @@
 -- `csv::reader::read_plain` meets its contract. Assumes nothing.
 use mathlib.Core.Path.{sym, _∙_}
 use borrow.Author.Needs.{needs}
-use Rattle.csv.specs.Laws.Reader.{plain-found}
+use Rattle.csv.specs.Laws.ReaderSteps.{plain-found}
 use Rattle.csv.proofs.reader.read_plain.Statement.{statement}
 use Rattle.csv.proofs.reader.read_plain.Tie as tie
 

@@ -8,7 +8,7 @@ use types.Run.{miss}
 use lib.ListN.{length, drop, drop-of-length-le}
 use borrow.Author.Needs.{needs}
 use Rattle.csv.specs.Reader.{quotedRead}
-use Rattle.csv.specs.Laws.Reader.{quoted-found, quoted-passed, quoted-breaks, quoted-last, quoted-closed, quoted-doubled}
+use Rattle.csv.specs.Laws.ReaderSteps.{quoted-found, quoted-passed, quoted-breaks, quoted-last, quoted-closed, quoted-doubled}
 use Rattle.csv.specs.Laws.Scans.{plain-allowed}
 use Rattle.csv.proofs.reader.read_quoted.Statement.{statement}
 use Rattle.csv.proofs.reader.read_quoted.Tie as tie
