@@ -10,7 +10,6 @@ use Rattle.allocation.specs.declared.choice.Turn.the-variants.{Finished,
 use Rattle.allocation.specs.declared.search.Ended.{Ended}
 use Rattle.allocation.specs.declared.search.Ended.the-variants.{Found, None, Stopped}
 use Rattle.allocation.specs.declared.state.State.{State}
-use Rattle.allocation.specs.declared.state.Pick.{Pick}
 use Rattle.allocation.specs.Layout.{SlotOf, Picked, restAt, limitAt, limitOf}
 
 -- a candidate is delivery p, with its slot, rest and limit

@@ -3,7 +3,7 @@ use planning::Fault;
 use planning::Refusal;
 ghost use mathlib.Core.Path.{_≡_};
 ghost use mathlib.Core.List.{List};
-ghost use mathlib.Core.Option.{Option, none, some};
+ghost use mathlib.Core.Option.{some};
 ghost use Prim.Native.Nat.{ℕ, _*_, _≤_, _<_};
 ghost use lib.ListN.{length};
 ghost use Rattle.planning.specs.declared.Mode.the-variants.{Fixed};

@@ -2,13 +2,11 @@
 use crate::state::Pick;
 ghost use mathlib.Core.Path.{_≡_};
 ghost use mathlib.Core.Bool.{true};
-ghost use mathlib.Core.List.{List};
 ghost use Prim.Native.Nat.{ℕ, _-_, _≤_, _<_};
 ghost use lib.Count.{ones};
 ghost use Rattle.planning.specs.Modes.{listed};
 ghost use Rattle.planning.specs.Search.{at, bulkier as comesBefore, bulkiestOf, smallestOf, stepOf};
-ghost use Rattle.allocation.specs.declared.state.State.{State};
-ghost use Rattle.allocation.specs.Layout.{remainingAt, stateOf, Deliveries, Engines, Kept, Sized};
+ghost use Rattle.allocation.specs.Layout.{remainingAt, stateOf, Deliveries, Kept, Sized};
 ghost use Rattle.allocation.specs.Sets.{has};
 ghost use Rattle.allocation.specs.Steps.{IsDelivery, IsChoice, stepOfTurn, PickOf};
 

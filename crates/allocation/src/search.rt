@@ -5,9 +5,9 @@ use crate::choice::next_turn;
 use crate::fill;
 use crate::state::State;
 ghost use mathlib.Core.Path.{_≡_};
-ghost use Prim.Native.Nat.{ℕ, _*_, _≤_};
+ghost use Prim.Native.Nat.{_*_, _≤_};
 ghost use lib.ListN.{length};
-ghost use Rattle.planning.specs.Search.{Result, upTo, lays, cuts, perform, searchFrom};
+ghost use Rattle.planning.specs.Search.{upTo, lays, cuts, perform, searchFrom};
 ghost use Rattle.allocation.specs.Layout.{stateOf, Kept, Sized, Picked, limitOf};
 ghost use Rattle.allocation.specs.Steps.{endedOf, written};
 

@@ -2,7 +2,6 @@
 use crate::capacity::capacity;
 use planning::Lookup;
 ghost use mathlib.Core.Path.{_≡_};
-ghost use mathlib.Core.List.{List};
 ghost use Prim.Native.Nat.{ℕ, _*_, _≤_, _<_};
 ghost use lib.ListN.{length};
 ghost use Rattle.planning.specs.Capacity.{capacities as capacitiesOf};

@@ -17,7 +17,7 @@ use Rattle.csv.specs.declared.Wrote.{Wrote}
 use Rattle.csv.specs.declared.Wrote.the-variants as writing
 use Rattle.csv.specs.Bytes.{quote}
 use Rattle.csv.specs.Fields.{rawFields, fieldValue}
-use Rattle.csv.specs.Records.{FirstRecord, firstRecord}
+use Rattle.csv.specs.Records.{firstRecord}
 use Rattle.csv.specs.Writer.{written, writable}
 
 -- the record that begins at a place of a file: its text ends where the first record of the bytes from there on does

@@ -9,7 +9,7 @@ use crate::scans::find_outside;
 use crate::scans::is_plain;
 ghost use mathlib.Core.Path.{_≡_};
 ghost use mathlib.Core.Option.{some};
-ghost use Prim.Native.Nat.{ℕ, _≤_, _<_};
+ghost use Prim.Native.Nat.{_≤_, _<_};
 ghost use lib.ListN.{length, getD};
 ghost use Rattle.csv.specs.Bytes.{quote};
 ghost use Rattle.csv.specs.Fields.{allText, fieldValue};

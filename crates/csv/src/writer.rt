@@ -5,7 +5,7 @@ use crate::bytes::class_of;
 ghost use mathlib.Core.Path.{_≡_};
 ghost use mathlib.Core.Bool.{true, false};
 ghost use mathlib.Core.List.{_++_};
-ghost use Prim.Native.Nat.{ℕ, _+_, _≤_};
+ghost use Prim.Native.Nat.{_+_, _≤_};
 ghost use lib.ListN.{length, take, drop};
 ghost use Rattle.csv.specs.Measures.{valueMeasure};
 ghost use Rattle.csv.specs.Spans.{wrote, wroteOnExit};

@@ -1,6 +1,6 @@
 // Numbers in a print.
 ghost use mathlib.Core.Path.{_≡_};
-ghost use Prim.Native.Nat.{ℕ, _+_, _≤_};
+ghost use Prim.Native.Nat.{_+_, _≤_};
 ghost use lib.ListN.{length};
 ghost use Rattle.planfile.specs.Numerals.{decimal};
 ghost use Rattle.filecall.specs.Printing.{Put};

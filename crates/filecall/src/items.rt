@@ -5,10 +5,10 @@ use crate::numeral::Ranged;
 use planning::Fault;
 ghost use mathlib.Core.Path.{_≡_};
 ghost use mathlib.Core.Option.{some};
-ghost use Prim.Native.Nat.{ℕ, _≤_};
+ghost use Prim.Native.Nat.{_≤_};
 ghost use Rattle.csv.specs.Fields.{fieldValue};
 ghost use Rattle.planfile.specs.Reading.{FourFields};
-ghost use Rattle.filecall.specs.Items.{Columns, Holding, Adds};
+ghost use Rattle.filecall.specs.Items.{Holding, Adds};
 
 // Whether an item was added, or a fault.
 pub(crate) enum Verdict {

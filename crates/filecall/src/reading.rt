@@ -11,7 +11,7 @@ ghost use Prim.Native.Nat.{ℕ, _≤_};
 ghost use lib.ListN.{length, drop};
 ghost use Rattle.csv.specs.Records.{furtherRecords};
 ghost use Rattle.planfile.specs.Reading.{fault as faultAt, readRecords, readFile};
-ghost use Rattle.filecall.specs.Items.{Columns, Holding};
+ghost use Rattle.filecall.specs.Items.{Holding};
 ghost use Rattle.filecall.specs.Parts.{IsCut};
 ghost use Rattle.planfile.specs.FilePlan.{begun};
 ghost use Rattle.filecall.specs.PlanRead.{AddsRecord, ItemsRead, ReadBy, refusedItems, requireEngine};

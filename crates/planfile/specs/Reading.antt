@@ -2,7 +2,7 @@
 -- "Order: 1; then records from the front, the first faulty one deciding; within a record 2, 3, 4, 7, then its fields from the left
 -- (5 or 6); after the last record 8."
 -- Assumes nothing.
-use Prim.Native.Nat.{ℕ, zero, suc, _+_}
+use Prim.Native.Nat.{ℕ, _+_}
 use mathlib.Core.Bool.{Bool, true, false, not, _&&_}
 use mathlib.Core.List.{List, [], _∷_, map}
 use mathlib.Core.Option.{Option, none, some}

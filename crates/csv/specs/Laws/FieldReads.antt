@@ -1,6 +1,6 @@
 -- What a field that was read where it begins in a file says of the record from there on: its fields, its text and where it ends.
 -- Assumes nothing.
-use mathlib.Core.Path.{_≡_, refl, sym, ap, ap₂, _∙_}
+use mathlib.Core.Path.{_≡_, refl, sym, ap, _∙_}
 use mathlib.Core.Bool.{true, false, cond, false≢true, true≢false}
 use mathlib.Core.Option.{Option, none, some}
 use mathlib.Core.List.{List, [], _∷_, _++_, append-assoc, append-nil}
@@ -10,7 +10,7 @@ use lib.ListN.{length, drop, length-append, length-drop}
 use lib.Seq.{drop-drop, drop-append-add}
 use Rattle.csv.specs.declared.FieldRead.{FieldRead}
 use Rattle.csv.specs.Bytes.{comma}
-use Rattle.csv.specs.Records.{FirstRecord, outsideAfter, firstFrom, firstRecord}
+use Rattle.csv.specs.Records.{outsideAfter, firstRecord}
 use Rattle.csv.specs.Fields.{rawFields, fieldValue, andThen, readAll, fieldValues}
 use Rattle.csv.specs.Spans.{beforeComma, beforeRecordEnd, withFile, brokenField, spanFrom, recordSpan, readBy, firstRead, fieldRead}
 use Rattle.csv.specs.Writer.{joined}

@@ -18,7 +18,7 @@ use Rattle.csv.specs.Laws.FieldReads.{ReadAt, broken-record, field-told}
 use Rattle.planning.specs.Laws.Finite.Decisions.{le-or-lt}
 use Rattle.planning.specs.Search.{at}
 use Rattle.filecall.specs.declared.entry.Fields.{Fields}
-use Rattle.filecall.specs.Parts.{IsCut, CutAt}
+use Rattle.filecall.specs.Parts.{CutAt}
 
 -- ---- the values of some fields and of one more
 

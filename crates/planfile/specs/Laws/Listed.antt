@@ -5,11 +5,10 @@ use mathlib.Core.Path.{_≡_, refl, sym, ap}
 use mathlib.Core.Logic.{_↔_, Iff·rfl, Iff·trans}
 use Prim.Native.Nat.{ℕ, _≤_, _<_}
 use native.Mathlib.Omega.{arith}
-use mathlib.Core.Bool.{_&&_, and-eq-true-iff}
+use mathlib.Core.Bool.{and-eq-true-iff}
 use mathlib.Core.List.{List, [], _∷_, _++_, map}
 use lib.ListN.{length, length-append}
 use lib.Dec.{ltb}
-use Rattle.planning.specs.declared.Fault.the-variants.{Name, Count}
 use Rattle.planning.specs.Plan.{All, Within}
 use Rattle.planning.specs.Laws.Numbers.{ltb-iff}
 use Rattle.planfile.specs.FilePlan.{FilePlan}

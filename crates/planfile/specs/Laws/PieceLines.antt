@@ -6,7 +6,6 @@ use native.Mathlib.Nat.{add-zero, add-suc, zero-mul, suc-mul}
 use native.Mathlib.Omega.{arith}
 use mathlib.Core.List.{List, [], _∷_}
 use lib.ListN.{length, length-append, length-map}
-use Rattle.csv.specs.Text.{ascii}
 use Rattle.planning.specs.Laws.Finite.Sums.{sum-front, positives-front}
 use Rattle.planning.specs.Modes.{pieceIn}
 use Rattle.planning.specs.Plan.{All}

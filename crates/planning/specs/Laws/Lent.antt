@@ -1,17 +1,17 @@
 -- What the lent table and spare list hold after an answer: found leaves a table that serves, whatever was lent; none and stopped
 -- leave what was lent. A refused call leaves it too.
 -- Assumes nothing.
-use mathlib.Core.Path.{_≡_, refl, sym, ap, subst, _∙_}
+use mathlib.Core.Path.{_≡_, refl, ap, _∙_}
 use mathlib.Core.Logic.{_≢_}
-use mathlib.Core.List.{List, _++_}
-use mathlib.Core.Option.{Option, none as unrefused, some}
+use mathlib.Core.List.{List}
+use mathlib.Core.Option.{some}
 use Prim.Native.Nat.{ℕ, _*_, _<_}
 use native.Mathlib.Omega.{arith}
 use lib.ListN.{length, drop, List·getD-append}
 use Rattle.planning.specs.declared.Allocation.the-variants.{Refused}
 use Rattle.planning.specs.declared.Outcome.the-variants.{Found}
 use Rattle.planning.specs.declared.Refusal.{Refusal}
-use Rattle.planning.specs.Cutting.{Fits, Cuts, Serves}
+use Rattle.planning.specs.Cutting.{Fits, Serves}
 use Rattle.planning.specs.Laws.Finite.Sums.{sum-ext, positives-ext}
 use Rattle.planning.specs.Laws.Plans.{length-capacities, length-energies}
 use Rattle.planning.specs.Laws.Soundness.Table.{cell-inside}

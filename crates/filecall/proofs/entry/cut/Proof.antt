@@ -1,8 +1,8 @@
 -- `filecall::entry::cut` meets its contract. The loop's invariant: the fields before `at` are passed. The measure is what is left of the file, and one
 -- more for the field that may stand at its end, as long as there are more. Assumes nothing.
-use mathlib.Core.Path.{_≡_, refl}
+use mathlib.Core.Path.{refl}
 use mathlib.Core.Logic.{⊎-elim, inl, inr}
-use mathlib.Core.Bool.{true, cond}
+use mathlib.Core.Bool.{cond}
 use Prim.Native.Nat.{_+_, _-_}
 use native.Mathlib.Omega.{arith}
 use lib.ListN.{length}

@@ -10,7 +10,7 @@ use native.Mathlib.Omega.{arith}
 use lib.Dec.{ltb, eqb}
 use borrow.Author.Tests.{ltb-true, ltb-false, le-ltb}
 use Rattle.planning.specs.Search.{State, at, comesFirst, bulkier, Choice, noneLeft, chosen, replaces, withDelivery, bulkiestOf}
-use Rattle.planning.specs.Laws.Finite.Decisions.{at-or-else, below-next}
+use Rattle.planning.specs.Laws.Finite.Decisions.{below-next}
 
 true-unless : (b : Bool) → (b ≡ false → ⊥) → b ≡ true
 true-unless true h = refl
