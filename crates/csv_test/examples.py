@@ -1,7 +1,8 @@
 #!/usr/bin/env python3
 """examples.py: write stdin and stdout beside this file: the examples, and what RFC 4180 says of them.
 
-The reading here is the RFC's grammar as regular expressions; Python's own csv module has to agree where the grammar reads a file.
+The reading here is the RFC's grammar as regular expressions: once a record's text cut at commas outside quotes, and once field by field
+in place. Python's own csv module has to agree where the grammar reads a file.
 """
 import csv
 import io
@@ -11,31 +12,89 @@ import re
 TEXTDATA = rb"[\x20-\x21\x23-\x2b\x2d-\x7e]"
 ESCAPED = re.compile(rb'"((?:' + TEXTDATA + rb'|,|\r|\n|"")*)"', re.S)
 NON_ESCAPED = re.compile(TEXTDATA + rb"*", re.S)
+# a field where it stands in a file, and what ends it
+IN_PLACE = re.compile(rb"(" + ESCAPED.pattern + rb"|" + NON_ESCAPED.pattern + rb")(,|\r\n|\Z)", re.S)
 
-# the examples printed in section 2, in the order of its seven rules
+# the examples printed in section 2, by its seven rules
 RULES = [
-    b"aaa,bbb,ccc\r\nzzz,yyy,xxx\r\n",
-    b"aaa,bbb,ccc\r\nzzz,yyy,xxx",
-    b"field_name,field_name,field_name\r\naaa,bbb,ccc\r\nzzz,yyy,xxx\r\n",
-    b"aaa,bbb,ccc",
-    b'"aaa","bbb","ccc"\r\nzzz,yyy,xxx',
-    b'"aaa","b\r\nbb","ccc"\r\nzzz,yyy,xxx',
-    b'"aaa","b""bb","ccc"',
+    ("rule 1, records end in CR LF", b"aaa,bbb,ccc\r\nzzz,yyy,xxx\r\n"),
+    ("rule 2, the last record may lack it", b"aaa,bbb,ccc\r\nzzz,yyy,xxx"),
+    ("rule 3, a header line is a record", b"field_name,field_name,field_name\r\naaa,bbb,ccc\r\nzzz,yyy,xxx\r\n"),
+    ("rule 4, commas between fields", b"aaa,bbb,ccc"),
+    ("rule 5, fields in quotes", b'"aaa","bbb","ccc"\r\nzzz,yyy,xxx'),
+    ("rule 6, a line break in quotes", b'"aaa","b\r\nbb","ccc"\r\nzzz,yyy,xxx'),
+    ("rule 7, a quote in quotes is doubled", b'"aaa","b""bb","ccc"'),
 ]
-# empty fields, spaces, line breaks at the end, and what may stand in quotes
-SOUND = [b"", b',""', b"a,b,", b" a , b ", b"a,b\r\n\r\n", b"\r\n", b'"a,b","\r","\n",""""', b'"""",""""""\r\n"a"""\r\n', b" !#+-~,\"!~\""]
-# quotes in the wrong place, quotes not closed, line breaks outside quotes, and bytes that stand nowhere
+SOUND = [
+    ("an empty file is one empty field", b""),
+    ("an empty field, and an empty one in quotes", b',""'),
+    ("a comma at the end begins an empty field", b"a,b,"),
+    ("spaces belong to a field", b" a , b "),
+    ("a record of one empty field at the end", b"a,b\r\n\r\n"),
+    ("a record of one empty field alone", b"\r\n"),
+    ("comma, CR, LF and quote in quotes", b'"a,b","\r","\n",""""'),
+    ("doubled quotes side by side", b'"""",""""""\r\n"a"""\r\n'),
+    ("the ends of TEXTDATA's ranges", b' !#+-~,"!~"'),
+    ("a backslash is text", b'a\\,"\\"'),
+]
 BROKEN = [
-    b'a"b,c', b' "a",b', b'"a" ,b', b'"a"b,c', b'"a,b\r\n', b'"a""', b'"', b'x,"', b"a,b\nc,d\r\n", b"a,b\rc,d\r\n", b"a\r",
-    b'"\x80"', b'"\x7f"', b"\x00", b"\t", b'"\t",b', b"\xef\xbb\xbfa,b",
+    ("a quote in plain text", b'a"b,c'),
+    ("a space before an opening quote", b' "a",b'),
+    ("a space behind a closing quote", b'"a" ,b'),
+    ("text behind a closing quote", b'"a"b,c'),
+    ("a quote not closed", b'"a,b\r\n'),
+    ("a doubled quote, and none to close", b'"a""'),
+    ("a quote alone", b'"'),
+    ("a quote as the last byte", b'x,"'),
+    ("LF without CR", b"a,b\nc,d\r\n"),
+    ("CR without LF", b"a,b\rc,d\r\n"),
+    ("CR at the end", b"a\r"),
+    ("hex 80 in quotes", b'"\x80"'),
+    ("hex 7F in quotes", b'"\x7f"'),
+    ("hex 00", b"\x00"),
+    ("a tab", b"\t"),
+    ("a tab in quotes", b'"\t",b'),
+    ("a byte order mark", b"\xef\xbb\xbfa,b"),
+    ("broken in the second record", b'a,b\r\nc,d"\r\ne,f'),
 ]
-# records end at CR LF outside quotes, in broken files too
-SPLIT = [b"a\nb\r\nc", b"a\r\r\nb", b'"a\r\nb"\r\nc\r\n', b'a\r\n"b\r\nc']
+SPLIT = [
+    ("a record ends at CR LF, not at LF", b"a\nb\r\nc"),
+    ("a record ends at CR LF, not at CR", b"a\r\r\nb"),
+    ("no record ends inside quotes", b'"a\r\nb"\r\nc\r\n'),
+    ("no record ends behind an open quote", b'a\r\n"b\r\nc'),
+]
 # values to write behind two bytes of an output of 24
 VALUES = [
-    b"", b"aaa", b" b b ", b'b"bb', b"b,b", b"b\r\nbb", b"\r", b"\n", b",", b'"', b'""', b"!#+-~",
-    b"a" * 22, b"a" * 23, b"," * 20, b"," * 21, b'"' * 10, b'"' * 11, b"a\tb", b"\x00", b'"\x7f', b"\x80" * 40,
+    ("nothing", b""),
+    ("text", b"aaa"),
+    ("spaces", b" b b "),
+    ("a quote in text", b'b"bb'),
+    ("a comma in text", b"b,b"),
+    ("CR LF in text", b"b\r\nbb"),
+    ("CR", b"\r"),
+    ("LF", b"\n"),
+    ("a comma", b","),
+    ("a quote", b'"'),
+    ("two quotes", b'""'),
+    ("the ends of TEXTDATA's ranges", b"!#+-~"),
+    ("22 bytes of text, which just fit", b"a" * 22),
+    ("23 bytes of text", b"a" * 23),
+    ("20 commas, which just fit", b"," * 20),
+    ("21 commas", b"," * 21),
+    ("10 quotes, which just fit", b'"' * 10),
+    ("11 quotes", b'"' * 11),
+    ("a tab in text", b"a\tb"),
+    ("hex 00", b"\x00"),
+    ("hex 7F behind a quote", b'"\x7f'),
+    ("40 bytes hex 80, refused before too long", b"\x80" * 40),
 ]
+ESCAPES = {0x0D: b"\\r", 0x0A: b"\\n", 0x5C: b"\\\\"}
+
+
+def shown(text):
+    """bytes in brackets, on one line"""
+    plain = (ESCAPES.get(b, bytes([b]) if 0x20 <= b <= 0x7E else b"\\x%02x" % b) for b in text)
+    return b"[" + b"".join(plain) + b"]"
 
 
 def outside(text, at):
@@ -66,20 +125,38 @@ def value(raw):
     return raw if NON_ESCAPED.fullmatch(raw) else None
 
 
-def shown(raw):
+def valued(raw):
     v = value(raw)
-    return b"broken\n" if v is None else b"[" + v + b"]\n"
+    return b"broken" if v is None else shown(v)
+
+
+def in_place(file):
+    """the raw fields from the front, each with what ends it, up to the first that is broken"""
+    at, found = 0, []
+    while True:
+        m = IN_PLACE.match(file, at)
+        if not m:
+            return found, b" broken"
+        found.append((m.group(1), {b",": b" comma", b"\r\n": b" record end", b"": b" end of file"}[m.group(3)]))
+        at = m.end()
+        if m.group(3) != b"," and at == len(file):
+            return found, b""
 
 
 def read(file):
-    out, values = b"file\n", []
+    out, raws, values = b"file " + shown(file) + b"\n", [], []
     for record in records(file):
         fields = cut(record, b",")
+        raws += fields
         values.append([value(f) for f in fields])
-        out += b"record\n" + b"".join(shown(f) for f in fields)
-    if all(v is not None for vs in values for v in vs):
+        out += b"record " + b" ".join(valued(f) for f in fields) + b"\n"
+    found, last = in_place(file)
+    sound = [raw for raw in raws if value(raw) is not None]
+    assert [raw for raw, _ in found] == (raws if len(sound) == len(raws) else raws[: len(found)]), file
+    assert (last == b"") == (len(sound) == len(raws)), file
+    if last == b"":
         agrees(file, values)
-    return out
+    return out + b"fields" + b"".join(b" " + shown(raw) + end for raw, end in found) + last + b"\n"
 
 
 def agrees(file, values):
@@ -89,22 +166,30 @@ def agrees(file, values):
     assert [vs or [""] for vs in theirs] == ours or (file == b"" and theirs == []), (file, theirs, ours)
 
 
-def write(v):
+def written(v):
+    """the output, and the value read back from it"""
     if any(value(b'"' + bytes([b]) + b'"') is None for b in v if b != 0x22):
-        return b"value\n[" + b"." * 24 + b"]\nrefused\n"
+        return b"." * 24, b"nothing: refused"
     field = v if NON_ESCAPED.fullmatch(v) else b'"' + v.replace(b'"', b'""') + b'"'
     if len(field) > 22:
-        return b"value\n[" + b"." * 24 + b"]\ntoo long\n"
-    return b"value\n[.." + field + b"." * (22 - len(field)) + b"]\n" + shown(field)
+        return b"." * 24, b"nothing: too long"
+    return b".." + field + b"." * (22 - len(field)), valued(field)
+
+
+def write(v):
+    output, back = written(v)
+    return b"value " + shown(v) + b"\noutput " + shown(output) + b"\nread back " + back + b"\n"
 
 
 def main():
-    files = RULES + SOUND + BROKEN + SPLIT
+    groups = [("RFC 4180, section 2, ", RULES), ("sound: ", SOUND), ("broken: ", BROKEN), ("records: ", SPLIT)]
+    examples = [(b"R", (group + title).encode(), x, read(x)) for group, part in groups for title, x in part]
+    examples += [(b"W", ("written: " + title).encode(), x, write(x)) for title, x in VALUES]
     here = os.path.dirname(os.path.abspath(__file__))
     with open(os.path.join(here, "stdin"), "wb") as f:
-        f.write(b"".join(b"R%04d" % len(x) + x for x in files) + b"".join(b"W%04d" % len(x) + x for x in VALUES))
+        f.write(b"".join(letter + b"%04d%04d" % (len(title), len(x)) + title + x for letter, title, x, _ in examples))
     with open(os.path.join(here, "stdout"), "wb") as f:
-        f.write(b"".join(read(x) for x in files) + b"".join(write(x) for x in VALUES))
+        f.write(b"".join(title + b"\n" + out for _, title, _, out in examples))
 
 
 if __name__ == "__main__":

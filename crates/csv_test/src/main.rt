@@ -1,5 +1,6 @@
 // Runs the crate csv over the examples on standard input: RFC 4180's own, records that break its grammar, and values to write. Each
-// example is a letter, R for a file to read and W for a value to write, its length in four decimal digits, and its bytes.
+// example is a letter, R for a file to read and W for a value to write, the lengths of its title and of its bytes in four decimal
+// digits each, its title, and its bytes.
 use libc::STDIN_FILENO;
 use libc::STDOUT_FILENO;
 ghost use Prim.Native.Nat.{_+_, _≤_, _<_};
@@ -9,11 +10,59 @@ fn print(text: &[u8]) {
     io::write_all(STDOUT_FILENO, text);
 }
 
-// Some bytes in brackets, on a line of their own unless they hold line breaks.
+// Whether a byte is shown as it stands: printable, and not the backslash that begins an escape.
+fn is_plain(b: u8) -> bool {
+    if b < 0x20 {
+        return false;
+    }
+    if 0x7E < b {
+        return false;
+    }
+    b != 0x5C
+}
+
+// Where the plain bytes from a place on end.
+fn plain_to(text: &[u8], from: usize) -> usize
+    requires { ⌜ from ≤ length (now text) ⌝ }
+    ensures { λ r. ⌜ (from ≤ r) × (r ≤ length (now (text .entry))) ⌝ }
+{
+    let mut at = from;
+    while at < text.len() {
+        if !is_plain(text[at]) {
+            return at;
+        }
+        at += 1;
+    }
+    at
+}
+
+// A byte that is not plain.
+fn show_escape(b: u8) {
+    match b {
+        0x0D => print(b"\\r"),
+        0x0A => print(b"\\n"),
+        0x5C => print(b"\\\\"),
+        _ => {
+            print(b"\\x");
+            io::print_hex(STDOUT_FILENO, b as u64, 2);
+        }
+    }
+}
+
+// Some bytes in brackets, with line breaks and what cannot be printed as escapes, so that they stay on one line.
 fn show(text: &[u8]) {
     print(b"[");
-    print(text);
-    print(b"]\n");
+    let mut from = 0;
+    while from < text.len() {
+        let end = plain_to(text, from);
+        print(&text[from..end]);
+        if end == text.len() {
+            break;
+        }
+        show_escape(text[end]);
+        from = end + 1;
+    }
+    print(b"]");
 }
 
 // The value of a field with doubled quotes.
@@ -22,8 +71,8 @@ fn show_undone(raw: &[u8]) {
     let undone = csv::undo(raw, &mut space);
     match undone {
         csv::Undone::Length(n) => show(&space[..n]),
-        csv::Undone::TooLong => print(b"too long\n"),
-        csv::Undone::Broken => print(b"broken\n"),
+        csv::Undone::TooLong => print(b"too long"),
+        csv::Undone::Broken => print(b"broken"),
     }
 }
 
@@ -31,30 +80,31 @@ fn show_undone(raw: &[u8]) {
 fn show_value(raw: &[u8]) {
     let form = csv::form_of(raw);
     match form {
-        csv::FieldForm::Broken => print(b"broken\n"),
+        csv::FieldForm::Broken => print(b"broken"),
         csv::FieldForm::Part => show(csv::part_of(raw)),
         csv::FieldForm::Doubled => show_undone(raw),
     }
 }
 
-// The values of a record's fields, a line for each.
+// The values of a record's fields, on a line.
 fn show_record(text: &[u8]) {
-    print(b"record\n");
+    print(b"record");
     let mut from = 0;
     loop {
         let field = csv::field_at(text, from);
         let end = field.end;
+        print(b" ");
         show_value(&text[from..end]);
         if !field.more {
+            print(b"\n");
             return;
         }
         from = end + 1;
     }
 }
 
-// The records of a file. A CR LF at the very end ends the last record, and none follows it.
-fn show_file(file: &[u8]) {
-    print(b"file\n");
+// The records of a file, a line for each. A CR LF at the very end ends the last record, and none follows it.
+fn show_records(file: &[u8]) {
     let mut from = 0;
     loop {
         let record = csv::record_at(file, from);
@@ -68,17 +118,66 @@ fn show_file(file: &[u8]) {
     }
 }
 
+// What ends a field that is read in place.
+fn show_ending(more: bool, record_end: bool) {
+    if more {
+        print(b" comma");
+    } else if record_end {
+        print(b" record end");
+    } else {
+        print(b" end of file");
+    }
+}
+
+// The raw fields of a file, read in place one after the other up to the first that is broken, and what ends each.
+fn show_fields(file: &[u8]) {
+    print(b"fields");
+    let mut from = 0;
+    loop {
+        let field = csv::field_read(file, from);
+        if !field.sound {
+            print(b" broken\n");
+            return;
+        }
+        let end = field.end;
+        let next = field.next;
+        print(b" ");
+        show(&file[from..end]);
+        show_ending(field.more, end < next);
+        if !field.more {
+            if file.len() <= next {
+                print(b"\n");
+                return;
+            }
+        }
+        from = next;
+    }
+}
+
+// A file, its records, and its fields.
+fn show_file(file: &[u8]) {
+    print(b"file ");
+    show(file);
+    print(b"\n");
+    show_records(file);
+    show_fields(file);
+}
+
 // What a value is written as between dots, and the value read back from there.
 fn show_written(value: &[u8]) {
-    print(b"value\n");
+    print(b"value ");
+    show(value);
     let mut out = [b'.'; 24];
     let wrote = csv::write_field(value, &mut out, 2);
+    print(b"\noutput ");
     show(&out);
+    print(b"\nread back ");
     match wrote {
         csv::Wrote::Next(next) => show_undone(&out[2..next]),
-        csv::Wrote::Refused => print(b"refused\n"),
-        csv::Wrote::TooLong => print(b"too long\n"),
+        csv::Wrote::Refused => print(b"nothing: refused"),
+        csv::Wrote::TooLong => print(b"nothing: too long"),
     }
+    print(b"\n");
 }
 
 // The number of a decimal digit, and 0 for any other byte.
@@ -105,7 +204,10 @@ fn number_at(input: &[u8], at: usize) -> usize
         + digit(input[at + 3])
 }
 
-fn show_example(letter: u8, bytes: &[u8]) {
+// An example: its title, and what comes of it.
+fn show_example<'a>(letter: u8, title: &'a [u8], bytes: &'a [u8]) {
+    print(title);
+    print(b"\n");
     if letter == b'R' {
         show_file(bytes);
     } else {
@@ -114,24 +216,26 @@ fn show_example(letter: u8, bytes: &[u8]) {
 }
 
 // The examples of an input, one after the other.
-fn show_examples(input: &[u8]) {
+fn show_examples(input: &[u8])
+    requires { ⌜ length (now input) ≤ 65536 ⌝ }
+{
     let mut at = 0;
-    while 5 <= input.len() - at {
+    while 9 <= input.len() - at {
         let letter = input[at];
-        let start = at + 5;
-        let n = number_at(input, at + 1);
-        if input.len() - start < n {
+        let title = at + 9;
+        let bytes = title + number_at(input, at + 1);
+        let end = bytes + number_at(input, at + 5);
+        if input.len() < end {
             print(b"cut off\n");
             return;
         }
-        let end = start + n;
-        show_example(letter, &input[start..end]);
+        show_example(letter, &input[title..bytes], &input[bytes..end]);
         at = end;
     }
 }
 
 fn main() {
-    let mut input = io::buffer();
+    let mut input = io::large_buffer();
     let n = io::read_full(STDIN_FILENO, &mut input);
     show_examples(&input[..n]);
 }

@@ -21,8 +21,8 @@ sub-loop c = search needs
 shared-slice-read-letter : tie.Need-shared-slice-read-letter Inv-loop μ-loop
 shared-slice-read-letter c = search needs
 
-add-start : tie.Need-add-start Inv-loop μ-loop
-add-start c = search needs
+add-title : tie.Need-add-title Inv-loop μ-loop
+add-title c = search needs
 
 add-number-at : tie.Need-add-number-at Inv-loop μ-loop
 add-number-at c = search needs
@@ -30,8 +30,17 @@ add-number-at c = search needs
 number-at-requires : tie.Need-number-at-requires Inv-loop μ-loop
 number-at-requires c κs = search needs
 
-sub-if1 : tie.Need-sub-if1 Inv-loop μ-loop
-sub-if1 c = search needs
+add-bytes : tie.Need-add-bytes Inv-loop μ-loop
+add-bytes c = search needs
+
+add-number-at-2 : tie.Need-add-number-at-2 Inv-loop μ-loop
+add-number-at-2 c = search needs
+
+number-at-requires-2 : tie.Need-number-at-requires-2 Inv-loop μ-loop
+number-at-requires-2 c κs = search needs
+
+add-end : tie.Need-add-end Inv-loop μ-loop
+add-end c = search needs
 
 slice-aggregate-print : tie.Need-slice-aggregate-print Inv-loop μ-loop
 slice-aggregate-print c = search needs
@@ -42,9 +51,6 @@ print-requires c κs = search needs
 returns : tie.Need-returns Inv-loop μ-loop
 returns c = search needs
 
-add-end : tie.Need-add-end Inv-loop μ-loop
-add-end c = search needs
-
 sub-show-example : tie.Need-sub-show-example Inv-loop μ-loop
 sub-show-example c = search needs
 
@@ -53,6 +59,15 @@ part-show-example-start c = search needs
 
 part-show-example-end : tie.Need-part-show-example-end Inv-loop μ-loop
 part-show-example-end c = search needs
+
+sub-show-example-2 : tie.Need-sub-show-example-2 Inv-loop μ-loop
+sub-show-example-2 c = search needs
+
+part-show-example-start-2 : tie.Need-part-show-example-start-2 Inv-loop μ-loop
+part-show-example-start-2 c = search needs
+
+part-show-example-end-2 : tie.Need-part-show-example-end-2 Inv-loop μ-loop
+part-show-example-end-2 c = search needs
 
 show-example-requires : tie.Need-show-example-requires Inv-loop μ-loop
 show-example-requires c κs = search needs
@@ -75,17 +90,22 @@ show-examples-spec =
     loop-holds
     sub-loop
     shared-slice-read-letter
-    add-start
+    add-title
     add-number-at
     number-at-requires
-    sub-if1
+    add-bytes
+    add-number-at-2
+    number-at-requires-2
+    add-end
     slice-aggregate-print
     print-requires
     returns
-    add-end
     sub-show-example
     part-show-example-start
     part-show-example-end
+    sub-show-example-2
+    part-show-example-start-2
+    part-show-example-end-2
     show-example-requires
     loop-less
     loop-again

@@ -6,17 +6,17 @@ use Prim.Native.Nat.{_≤_, _<_, _-_}
 use native.Mathlib.Omega.{arith}
 use lib.ListN.{length}
 use denote.Ref.{now}
-use borrow.Author.Needs.{needs}
 use borrow.Author.Tests.{not-false}
 use Rattle.csv.specs.Laws.Spans.{field-within}
+use borrow.Author.Needs.{needs}
 use Rattle.csv_test.proofs.show_record.Statement.{statement}
 use Rattle.csv_test.proofs.show_record.Tie as tie
 
 abbrev Inv-loop : tie.InvT-loop
-Inv-loop text from₀ from = from ≤ length text
+Inv-loop text from₀ t6 t7 from = from ≤ length text
 
 abbrev μ-loop : tie.MeasureT-loop
-μ-loop text from₀ from = length text - from
+μ-loop text from₀ t6 t7 from = length text - from
 
 -- the field lies in the text
 within : (c : tie.After-field-at Inv-loop μ-loop)
@@ -27,9 +27,9 @@ within c = rw (c .field-at .ensures) (field-within _ _ (c .before .loop .inv))
 
 -- and so does the comma behind it
 comma-within : (c : tie.Else1 Inv-loop μ-loop)
-    → let field = c .before .before .before .before in
+    → let field = c .before .before .before .before .before .before in
     (field .before .loop .from ≤ field .field-at .result .end) × (field .field-at .result .end < length (now (field .before .before .before .before .before .args .text)))
-comma-within c = let w = within (c .before .before .before .before) in (w .0, w .2 (not-false _ (c .if1 .left)))
+comma-within c = let w = within (c .before .before .before .before .before .before) in (w .0, w .2 (not-false _ (c .if1 .left)))
 
 slice-aggregate-print : tie.Need-slice-aggregate-print Inv-loop μ-loop
 slice-aggregate-print c = search needs
@@ -43,17 +43,29 @@ loop-holds c = search needs
 field-at-requires : tie.Need-field-at-requires Inv-loop μ-loop
 field-at-requires c κs = search needs
 
+slice-aggregate-print-2 : tie.Need-slice-aggregate-print-2 Inv-loop μ-loop
+slice-aggregate-print-2 c = search needs
+
+print-requires-2 : tie.Need-print-requires-2 Inv-loop μ-loop
+print-requires-2 c κs = search needs
+
 sub-show-value : tie.Need-sub-show-value Inv-loop μ-loop
-sub-show-value c = omega (arith, within c)
+sub-show-value c = omega (arith, within (c .before .before))
 
 part-show-value-start : tie.Need-part-show-value-start Inv-loop μ-loop
-part-show-value-start c = omega (arith, within c)
+part-show-value-start c = omega (arith, within (c .before .before))
 
 part-show-value-end : tie.Need-part-show-value-end Inv-loop μ-loop
-part-show-value-end c = omega (arith, within c)
+part-show-value-end c = omega (arith, within (c .before .before))
 
 show-value-requires : tie.Need-show-value-requires Inv-loop μ-loop
 show-value-requires c κs = search needs
+
+slice-aggregate-print-3 : tie.Need-slice-aggregate-print-3 Inv-loop μ-loop
+slice-aggregate-print-3 c = search needs
+
+print-requires-3 : tie.Need-print-requires-3 Inv-loop μ-loop
+print-requires-3 c κs = search needs
 
 returns : tie.Need-returns Inv-loop μ-loop
 returns c = search needs
@@ -77,10 +89,14 @@ show-record-spec =
     print-requires
     loop-holds
     field-at-requires
+    slice-aggregate-print-2
+    print-requires-2
     sub-show-value
     part-show-value-start
     part-show-value-end
     show-value-requires
+    slice-aggregate-print-3
+    print-requires-3
     returns
     add-from
     loop-less

@@ -2,14 +2,14 @@
 use mathlib.Core.Path.{sym, _∙_}
 use Prim.Native.Nat.{_≤_}
 use native.Mathlib.Omega.{arith}
-use borrow.Author.Needs.{needs}
 use Rattle.csv.specs.Laws.Bounds.{wrote-within}
+use borrow.Author.Needs.{needs}
 use Rattle.csv_test.proofs.show_written.Statement.{statement}
 use Rattle.csv_test.proofs.show_written.Tie as tie
 
 -- the field lies in the output
 within : (c : tie.After-wrote) → (2 ≤ c .wrote .given .0 .0) × (c .wrote .given .0 .0 ≤ 24)
-within c = wrote-within _ _ _ _ (sym (c .wrote .given .1) ∙ c .before .before .before .before .before .write-field .ensures .0)
+within c = wrote-within _ _ _ _ (sym (c .wrote .given .1) ∙ c .before .before .before .before .before .before .before .before .before .write-field .ensures .0)
 
 slice-aggregate-print : tie.Need-slice-aggregate-print
 slice-aggregate-print c = search needs
@@ -17,17 +17,32 @@ slice-aggregate-print c = search needs
 print-requires : tie.Need-print-requires
 print-requires c κs = search needs
 
+show-requires : tie.Need-show-requires
+show-requires c κs = search needs
+
 slice-aggregate-write-field : tie.Need-slice-aggregate-write-field
 slice-aggregate-write-field c = search needs
 
 write-field-requires : tie.Need-write-field-requires
 write-field-requires c κs = search needs
 
+slice-aggregate-print-2 : tie.Need-slice-aggregate-print-2
+slice-aggregate-print-2 c = search needs
+
+print-requires-2 : tie.Need-print-requires-2
+print-requires-2 c κs = search needs
+
 slice-aggregate-show : tie.Need-slice-aggregate-show
 slice-aggregate-show c = search needs
 
-show-requires : tie.Need-show-requires
-show-requires c κs = search needs
+show-requires-2 : tie.Need-show-requires-2
+show-requires-2 c κs = search needs
+
+slice-aggregate-print-3 : tie.Need-slice-aggregate-print-3
+slice-aggregate-print-3 c = search needs
+
+print-requires-3 : tie.Need-print-requires-3
+print-requires-3 c κs = search needs
 
 enum-known-wrote : tie.Need-enum-known-wrote
 enum-known-wrote c = search needs
@@ -39,7 +54,7 @@ part-show-undone-start : tie.Need-part-show-undone-start
 part-show-undone-start c = omega (arith, within (c .before .before))
 
 part-show-undone-end : tie.Need-part-show-undone-end
-part-show-undone-end c = omega (arith, within (c .before .before), c .before .before .before .before .before .before .before .write-field .kept .1 .0)
+part-show-undone-end c = omega (arith, within (c .before .before), c .before .before .before .before .before .before .before .before .before .before .before .write-field .kept .1 .0)
 
 show-undone-requires : tie.Need-show-undone-requires
 show-undone-requires c κs = search needs
@@ -47,29 +62,29 @@ show-undone-requires c κs = search needs
 enum-told : tie.Need-enum-told
 enum-told c = search needs
 
-slice-aggregate-print-2 : tie.Need-slice-aggregate-print-2
-slice-aggregate-print-2 c = search needs
+slice-aggregate-print-4 : tie.Need-slice-aggregate-print-4
+slice-aggregate-print-4 c = search needs
 
-print-requires-2 : tie.Need-print-requires-2
-print-requires-2 c κs = search needs
+print-requires-4 : tie.Need-print-requires-4
+print-requires-4 c κs = search needs
 
 enum-told-2 : tie.Need-enum-told-2
 enum-told-2 c = search needs
 
-slice-aggregate-print-3 : tie.Need-slice-aggregate-print-3
-slice-aggregate-print-3 c = search needs
+slice-aggregate-print-5 : tie.Need-slice-aggregate-print-5
+slice-aggregate-print-5 c = search needs
 
-print-requires-3 : tie.Need-print-requires-3
-print-requires-3 c κs = search needs
+print-requires-5 : tie.Need-print-requires-5
+print-requires-5 c κs = search needs
+
+slice-aggregate-print-6 : tie.Need-slice-aggregate-print-6
+slice-aggregate-print-6 c = search needs
+
+print-requires-6 : tie.Need-print-requires-6
+print-requires-6 c κs = search needs
 
 returns : tie.Need-returns
 returns c = search needs
-
-returns-2 : tie.Need-returns-2
-returns-2 c = search needs
-
-returns-3 : tie.Need-returns-3
-returns-3 c = search needs
 
 pub show-written-spec : {M : Type 1} → statement M
 show-written-spec =
@@ -77,21 +92,26 @@ show-written-spec =
     (tie.spec
     slice-aggregate-print
     print-requires
+    show-requires
     slice-aggregate-write-field
     write-field-requires
+    slice-aggregate-print-2
+    print-requires-2
     slice-aggregate-show
-    show-requires
+    show-requires-2
+    slice-aggregate-print-3
+    print-requires-3
     enum-known-wrote
     sub-show-undone
     part-show-undone-start
     part-show-undone-end
     show-undone-requires
     enum-told
-    slice-aggregate-print-2
-    print-requires-2
+    slice-aggregate-print-4
+    print-requires-4
     enum-told-2
-    slice-aggregate-print-3
-    print-requires-3
-    returns
-    returns-2
-    returns-3)
+    slice-aggregate-print-5
+    print-requires-5
+    slice-aggregate-print-6
+    print-requires-6
+    returns)

@@ -1,13 +1,13 @@
--- `csv_test::show_file` is safe and ends: each record lies in the file and the next one begins behind it. The measure is what is left of
+-- `csv_test::show_records` is safe and ends: each record lies in the file and the next one begins behind it. The measure is what is left of
 -- the file. Assumes nothing.
 use Prim.Native.Nat.{_≤_, _<_, _-_}
 use native.Mathlib.Omega.{arith}
 use lib.ListN.{length}
 use denote.Ref.{now}
-use borrow.Author.Needs.{needs}
 use Rattle.csv.specs.Laws.Bounds.{record-within}
-use Rattle.csv_test.proofs.show_file.Statement.{statement}
-use Rattle.csv_test.proofs.show_file.Tie as tie
+use borrow.Author.Needs.{needs}
+use Rattle.csv_test.proofs.show_records.Statement.{statement}
+use Rattle.csv_test.proofs.show_records.Tie as tie
 
 abbrev Inv-loop : tie.InvT-loop
 Inv-loop file from₀ from = from ≤ length file
@@ -17,17 +17,11 @@ abbrev μ-loop : tie.MeasureT-loop
 
 -- the record lies in the file, and the next one begins behind it
 within : (c : tie.After-record-at Inv-loop μ-loop)
-    → let file = now (c .before .before .before .before .before .args .file) in
+    → let file = now (c .before .before .before .args .file) in
     let record-span = c .record-at .result in
     (c .before .loop .from ≤ record-span .end) × (record-span .end ≤ record-span .next) × (record-span .next ≤ length file)
     × (record-span .next < length file → c .before .loop .from < record-span .next)
 within c = rw (c .record-at .ensures) (record-within _ _ (c .before .loop .inv))
-
-slice-aggregate-print : tie.Need-slice-aggregate-print Inv-loop μ-loop
-slice-aggregate-print c = search needs
-
-print-requires : tie.Need-print-requires Inv-loop μ-loop
-print-requires c κs = search needs
 
 loop-holds : tie.Need-loop-holds Inv-loop μ-loop
 loop-holds c = search needs
@@ -56,14 +50,12 @@ loop-less c = omega (arith, within (c .before .before .before) .3 (c .if1 .left)
 loop-again : tie.Need-loop-again Inv-loop μ-loop
 loop-again c = search needs
 
-pub show-file-spec : {M : Type 1} → statement M
-show-file-spec =
+pub show-records-spec : {M : Type 1} → statement M
+show-records-spec =
     tie.close
     (tie.spec
     Inv-loop
     μ-loop
-    slice-aggregate-print
-    print-requires
     loop-holds
     record-at-requires
     sub-show-record
