@@ -6,6 +6,7 @@ exhaustive planner that tries every cutting in whole watt-hours and in halves. R
 """
 import itertools
 import random
+import re
 
 MOST = 10**9
 
@@ -144,87 +145,171 @@ def answer(mode, minutes, allowance, watts, fuels, energies, limits, table, spar
     return at(high)
 
 
-PLANS = []
+CALLS = []
 
 
-def call(mode, minutes, allowance, watts, fuels, energies, limits, table=None, spare=None):
+def call(title, mode, minutes, allowance, watts, fuels, energies, limits, table=None, spare=None):
     table = len(watts) * len(energies) if table is None else table
     spare = len(watts) if spare is None else spare
-    PLANS.append((mode, minutes, allowance, list(watts), list(fuels), list(energies), list(limits), table, spare))
+    CALLS.append((title, mode, minutes, allowance, list(watts), list(fuels), list(energies), list(limits), table, spare))
 
 
-def plan(capacities, deliveries, allowance=100, mode=0, minutes=60):
-    call(mode, minutes, allowance, capacities, [MOST] * len(capacities), [e for e, _ in deliveries], [n for _, n in deliveries])
+def plan(title, capacities, deliveries, allowance=100, mode=0, minutes=60):
+    call(title, mode, minutes, allowance, capacities, [MOST] * len(capacities), [e for e, _ in deliveries], [n for _, n in deliveries])
 
 
-def plans():
-    # document 01, "Plans to try"
-    plan([3000, 5000], [(5000, 2), (3000, 2)])
-    plan([3000, 5000], [(5000, 1), (3000, 1)])
-    plan([4000, 4000], [(5000, 1), (3000, 1)])
-    plan([4000, 4000], [(3000, 1), (3000, 1), (2000, 1)], 4)
-    plan([4000, 4000], [(3000, 1), (3000, 1), (2000, 1)], 3)
-    plan([4000, 4000], [(3000, 1), (3000, 1), (2000, 2)])
-    plan([2000, 2000, 2000], [(6000, 2)])
-    plan([4000, 4000], [(3000, 2), (5000, 3)], 0)
-    plan([0, 5000], [(5000, 2)])
-    plan([3000], [])
-    plan([3000], [], mode=1)
-    plan([3000, 5000], [(5000, 2), (3000, 2)], mode=1, minutes=120)
-    # plans that tell document 01's search from others
-    for capacities, deliveries in [
-        ([1, 3], [(1, 2), (3, 3)]), ([2, 1], [(1, 1), (2, 1)]), ([2, 1], [(2, 2)]), ([1, 3], [(2, 2), (2, 2)]),
-        ([1, 2, 2], [(4, 2)]), ([0, 1, 1], [(2, 2)]), ([1, 7], [(4, 2), (4, 2)]), ([5, 2], [(5, 3), (2, 2)]),
-    ]:
-        plan(capacities, deliveries)
-    call(1, 60, 1, [8, 6], [7, 5], [3, 3], [1, 2])
-    call(1, 30, 1, [18, 10], [8, 4], [7, 1], [3, 2])
-    call(1, 61, 0, [2, 5], [3, MOST], [4, 1], [3, 3])
-    call(1, 61, 5, [2, 7, 3], [2, MOST, 4], [4, 7], [1, 2])
-    # refusals
-    wide = 2**64 - 1
-    for bad in [
-        (0, 60, 9, [1, 2], [1], [], []), (0, 60, 9, [1], [1], [5], [1, 2]), (0, 60, 9, [], [], [], []),
-        (0, 60, 9, [1] * 13, [1] * 13, [], []), (0, 60, 9, [1], [1], [1] * 65, [1] * 65), (0, 60, 9, [1], [1], [5], [1], 0),
-        (0, 60, 9, [1], [1], [5], [1], 768), (0, 60, 9, [1], [1], [5], [1], 1, 2), (0, 0, 9, [1], [1], [], []),
-        (0, 10081, 9, [1], [1], [], []), (0, wide, 9, [1], [1], [], []), (0, 60, MOST + 1, [1], [1], [], []),
-        (0, 60, 9, [5000001], [1], [], []), (0, 60, 9, [1, 1], [1, MOST + 1], [], []), (0, 60, 9, [1, 1], [1, 1], [0], [1]),
-        (0, 60, 9, [1, 1], [1, 1], [1, 2], [1, 13]), (0, 60, 9, [1, 1], [1, 1], [1, 2], [1, 0]), (0, 60, 9, [1], [wide], [1], [1]),
-        (0, 60, 9, [wide], [1], [1], [1]), (0, 60, 9, [1], [1], [wide], [1]), (0, 60, 9, [1], [1], [1], [wide]),
-        (0, 60, wide, [1], [1], [1], [1]),
-    ]:
-        call(*bad)
-    # the ends of the ranges, and long searches
-    call(0, 10080, 9, [5000000] * 12, [MOST] * 12, [MOST] * 12, [12] * 12)
-    call(1, 10080, 1000, [5000000] * 12, [MOST] * 12, [MOST] * 11 + [MOST // 2], [2] * 12)
-    plan([1000] * 12, [(187, 1)] * 64, 2000)
-    plan([1000] * 12, [(900, 1)] * 13, 5000)
-    plan([1000] * 12, [(1600, 2)] * 7, 5000)
-    plan([100] * 12, [(18, 2)] * 64, 0)
-    plan([100] * 12, [(18, 1)] * 64, 500, 1, 10080)
-    # at random, from a fixed seed
+# document 01's "Plans to try" for 60 minutes: a title, engines by capacity, deliveries as energy and limit, and the allowance
+PLANS_TO_TRY = [
+    ("as printed", [3000, 5000], [(5000, 2), (3000, 2)], 100),
+    ("crosswise", [3000, 5000], [(5000, 1), (3000, 1)], 100),
+    ("5000 fits no engine of 4000", [4000, 4000], [(5000, 1), (3000, 1)], 100),
+    ("three deliveries on two engines", [4000, 4000], [(3000, 1), (3000, 1), (2000, 1)], 100),
+    ("three on two, allowance 4", [4000, 4000], [(3000, 1), (3000, 1), (2000, 1)], 4),
+    ("three on two, allowance 3", [4000, 4000], [(3000, 1), (3000, 1), (2000, 1)], 3),
+    ("the same with 2000/2", [4000, 4000], [(3000, 1), (3000, 1), (2000, 2)], 100),
+    ("6000 from two of three engines", [2000, 2000, 2000], [(6000, 2)], 100),
+    ("straight fill with allowance 0", [4000, 4000], [(3000, 2), (5000, 3)], 0),
+    ("an engine of 0", [0, 5000], [(5000, 2)], 100),
+    ("no deliveries", [3000], [], 100),
+]
+# plans that tell document 01's search from others
+CLOSE_PLANS = [
+    ("the bulkier delivery comes second", [1, 3], [(1, 2), (3, 3)]),
+    ("limit 1, the larger rest first", [2, 1], [(1, 1), (2, 1)]),
+    ("no cut where remaining equals the rest", [2, 1], [(2, 2)]),
+    ("equal bulk, the earlier first", [1, 3], [(2, 2), (2, 2)]),
+    ("a cut put back", [1, 2, 2], [(4, 2)]),
+    ("no cut of nothing", [0, 1, 1], [(2, 2)]),
+    ("equal bulk again, a large engine", [1, 7], [(4, 2), (4, 2)]),
+    ("5/3 is bulkier than 2/2", [5, 2], [(5, 3), (2, 2)]),
+    ("limit 1 before a bulkier one", [5, 5], [(6, 2), (3, 1)]),
+    ("two layings put back", [6, 5], [(5, 1), (3, 1), (3, 1)]),
+]
+WIDE = 2**64 - 1
+# refusals, each by one fault
+REFUSALS = [
+    ("3, more watts than fuels", 0, 60, 9, [1, 2], [1], [], []),
+    ("3, more fuels than watts", 0, 60, 9, [1], [1, 2], [], []),
+    ("3, more limits than energies", 0, 60, 9, [1], [1], [5], [1, 2]),
+    ("3, more energies than limits", 0, 60, 9, [1], [1], [5, 5], [1]),
+    ("8, no engine", 0, 60, 9, [], [], [], []),
+    ("8, no engine but a delivery", 0, 60, 9, [], [], [5], [1]),
+    ("7, a 13th engine", 0, 60, 9, [1] * 13, [1] * 13, [], []),
+    ("7, a 65th delivery", 0, 60, 9, [1], [1], [1] * 65, [1] * 65),
+    ("9, a table of no number", 0, 60, 9, [1], [1], [5], [1], 0),
+    ("9, a table a number short", 0, 60, 9, [1, 1], [1, 1], [5, 5], [1, 1], 3),
+    ("9, a table a number long", 0, 60, 9, [1, 1], [1, 1], [5, 5], [1, 1], 5),
+    ("9, a table of 768 numbers for one", 0, 60, 9, [1], [1], [5], [1], 768),
+    ("9, a spare list a number long", 0, 60, 9, [1], [1], [5], [1], 1, 2),
+    ("9, a spare list a number short", 0, 60, 9, [1, 1], [1, 1], [5], [1], 2, 1),
+    ("6 at 1, minutes 0", 0, 0, 9, [1], [1], [], []),
+    ("6 at 1, minutes 10081", 0, 10081, 9, [1], [1], [], []),
+    ("6 at 1, the widest minutes", 0, WIDE, 9, [1], [1], [], []),
+    ("6 at 1, minutes 0 as shortest", 1, 0, 9, [1], [1], [], []),
+    ("6 at 1, allowance", 0, 60, MOST + 1, [1], [1], [], []),
+    ("6 at 1, the widest allowance", 0, 60, WIDE, [1], [1], [1], [1]),
+    ("6 at 2, watts of engine 1", 0, 60, 9, [5000001], [1], [], []),
+    ("6 at 2, the widest watts", 0, 60, 9, [WIDE], [1], [1], [1]),
+    ("6 at 2, the widest fuel", 0, 60, 9, [1], [WIDE], [1], [1]),
+    ("6 at 3, fuel of engine 2", 0, 60, 9, [1, 1], [1, MOST + 1], [], []),
+    ("6 at 4, energy 0 of delivery 1", 0, 60, 9, [1, 1], [1, 1], [0], [1]),
+    ("6 at 3, the widest energy", 0, 60, 9, [1], [1], [WIDE], [1]),
+    ("6 at 3, energy 1000000001", 0, 60, 9, [1], [1], [MOST + 1], [1]),
+    ("6 at 5, limit 13 of delivery 2", 0, 60, 9, [1, 1], [1, 1], [1, 2], [1, 13]),
+    ("6 at 5, limit 0 of delivery 2", 0, 60, 9, [1, 1], [1, 1], [1, 2], [1, 0]),
+    ("6 at 3, the widest limit", 0, 60, 9, [1], [1], [1], [WIDE]),
+    ("6 at 77, delivery 64 behind 12 engines", 0, 60, 9, [1] * 12, [1] * 12, [1] * 64, [1] * 63 + [0]),
+]
+# two faults at once: the order 3, 8, 7, 9, 6, and for 6 the places from the front
+ORDER = [
+    ("3 before 8", 0, 60, 9, [], [1], [], []),
+    ("3 before 7", 0, 60, 9, [1] * 13, [1] * 12, [], []),
+    ("3 before 9", 0, 60, 9, [1, 2], [1], [], [], 5),
+    ("3 before 6", 0, 0, 9, [1], [1], [5], []),
+    ("8 before 7", 0, 60, 9, [], [], [1] * 65, [1] * 65),
+    ("8 before 9", 0, 60, 9, [], [], [5], [1], 1),
+    ("8 before 6", 0, 0, 9, [], [], [0], [1]),
+    ("7 before 9", 0, 60, 9, [1] * 13, [1] * 13, [5], [1], 12, 12),
+    ("7 before 6", 0, 0, 9, [1] * 13, [1] * 13, [], []),
+    ("7 before 6, deliveries", 0, 60, 9, [1], [1], [0] * 65, [1] * 65),
+    ("9 before 6, the table", 0, 0, 9, [1], [1], [5], [1], 2),
+    ("9 before 6, the spare list", 0, 60, 9, [5000001], [1], [], [], 0, 12),
+    ("6 at 1 before 2", 0, 10081, 9, [5000001], [1], [], []),
+    ("6 at 1 before 3, allowance", 0, 60, MOST + 1, [1], [1], [0], [1]),
+    ("6 at 2 before 3", 0, 60, 9, [1, 5000001], [MOST + 1, 1], [], []),
+    ("6 at 3 before 4", 0, 60, 9, [1, 5000001], [1, 1], [0], [1]),
+    ("6 at 4 before 5", 0, 60, 9, [1, 1], [1, 1], [1, 0], [13, 1]),
+]
+
+
+def random_calls():
+    """Calls at random, from a fixed seed."""
     draw = random.Random(20261115)
-    for _ in range(160):
+    for i in range(160):
         engines, count, size = draw.randint(1, 5), draw.randint(0, 6), draw.choice([2, 4, 8, 30])
         call(
+            f"at random {i + 1}",
             draw.randint(0, 1), draw.choice([60, 61, 120, 10080]), draw.choice([0, 1, 2, 5, 20, 1000]),
             [draw.randint(0, size * 2) for _ in range(engines)], [draw.randint(0, size * 2) for _ in range(engines)],
             [draw.randint(1, size) for _ in range(count)], [draw.randint(1, draw.choice([1, 2, 3, 12])) for _ in range(count)],
         )
 
 
+def calls():
+    for title, *what in PLANS_TO_TRY:
+        plan("plans to try, " + title, *what)
+    plan("plans to try, no deliveries as shortest", [3000], [], mode=1)
+    plan("plans to try, as printed as shortest, 120 minutes", [3000, 5000], [(5000, 2), (3000, 2)], mode=1, minutes=120)
+    plan("as printed as shortest, 60 minutes", [3000, 5000], [(5000, 2), (3000, 2)], mode=1)
+    plan("as printed as shortest, 59 minutes", [3000, 5000], [(5000, 2), (3000, 2)], mode=1, minutes=59)
+    plan("as printed, just enough tries", [3000, 5000], [(5000, 2), (3000, 2)], 2)
+    plan("as printed, a try too few", [3000, 5000], [(5000, 2), (3000, 2)], 1)
+    call("capacity, 59 watts for 1 minute", 0, 1, 9, [59], [MOST], [1], [1])
+    call("capacity, 60 watts for 1 minute", 0, 1, 9, [60], [MOST], [1], [1])
+    call("capacity, fuel below watts", 0, 60, 9, [1000], [4], [5], [1])
+    for title, *what in CLOSE_PLANS:
+        plan("search, " + title, *what)
+    call("shortest, stopped below the plan's minutes", 1, 60, 1, [8, 6], [7, 5], [3, 3], [1, 2])
+    call("shortest, found at 18", 1, 30, 1, [18, 10], [8, 4], [7, 1], [3, 2])
+    call("shortest, stopped with allowance 0", 1, 61, 0, [2, 5], [3, MOST], [4, 1], [3, 3])
+    call("shortest, none at the plan's minutes", 1, 61, 5, [2, 7, 3], [2, MOST, 4], [4, 7], [1, 2])
+    for title, *what in REFUSALS:
+        call("refused by " + title, *what)
+    for title, *what in ORDER:
+        call("order, " + title, *what)
+    call("the largest numbers", 0, 10080, MOST, [5000000] * 12, [MOST] * 12, [MOST] * 12, [12] * 12)
+    call("the largest numbers as shortest", 1, 10080, 1000, [5000000] * 12, [MOST] * 12, [MOST] * 11 + [MOST // 2], [2] * 12)
+    plan("64 deliveries laid on 12 engines", [1000] * 12, [(187, 1)] * 64, 2000)
+    plan("13 on 12, stopped after 5000 tries", [1000] * 12, [(900, 1)] * 13, 5000)
+    plan("7 cut on 12, stopped after 5000 tries", [1000] * 12, [(1600, 2)] * 7, 5000)
+    plan("64 deliveries filled straight", [100] * 12, [(18, 2)] * 64, 0)
+    plan("64 deliveries as shortest", [100] * 12, [(18, 1)] * 64, 500, 1, 10080)
+    random_calls()
+
+
+def shown(numbers):
+    """A space before each number, equal ones in a row as number*count."""
+    runs = ((n, len(list(group))) for n, group in itertools.groupby(numbers))
+    return "".join(f" {n}*{times}" if times > 1 else f" {n}" for n, times in runs)
+
+
 def main():
-    plans()
+    calls()
     with open("stdin", "w") as given, open("stdout", "w") as expected:
-        for mode, minutes, allowance, watts, fuels, energies, limits, table, spare in PLANS:
+        for title, mode, minutes, allowance, watts, fuels, energies, limits, table, spare in CALLS:
             lists = [watts, fuels, energies, limits]
             numbers = [mode, minutes, allowance] + [len(x) for x in lists] + [table, spare] + list(itertools.chain(*lists))
-            given.write(" ".join(map(str, numbers)) + "\n")
+            given.write(title + "\n" + " ".join(map(str, numbers)) + "\n")
+            named = "".join(f", {name}{shown(x)}" for name, x in zip(("watts", "fuels", "energies", "limits"), lists))
+            expected.write(f"{title}: {('fixed', 'shortest')[mode]} {minutes} {allowance}{named}, lent {table} and {spare}\n")
             word, first, second, pieces, left = answer(mode, minutes, allowance, *lists, table, spare)
-            cells = [7] * table if pieces is None else pieces
-            spares = [8] * spare if left is None else left
-            expected.write(f"{word} {first} {second} | " + "".join(f"{x} " for x in cells) + "0 | " + "".join(f"{x} " for x in spares) + "0 \n")
-        given.write("9\n")
+            told = re.match(r"(?:refused by|order,) (\d)(?: at (\d+))?", title)
+            if told:
+                assert word == "refused" and first == int(told[1]) and second == int(told[2] or 0), title
+            cells = shown([7] * table if pieces is None else pieces)
+            spares = shown([8] * spare if left is None else left)
+            kept = ", behind it changed 0"
+            expected.write(f"  {word} {first} {second}, table{cells}{kept}, spare{spares}{kept}\n")
 
 
 if __name__ == "__main__":

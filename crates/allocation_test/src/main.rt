@@ -1,16 +1,16 @@
 // Runs the plans of its standard input through the allocation on numbers, each with lent lists that are filled with a pattern, and
-// prints every answer and every cell.
+// prints the call, its answer and every cell.
 //
-// A plan is the numbers: mode (0 fixed, 1 shortest), minutes, allowance, the lengths of the lists of watts, fuels, energies and limits and
-// of the lent table and spare list, and then the four lists. Anything that is no digit stands between numbers; a mode above 1 ends the input.
+// A plan is a line with its title, and the numbers: mode (0 fixed, 1 shortest), minutes, allowance, the lengths of the lists of watts,
+// fuels, energies and limits and of the lent table and spare list, and then the four lists. Anything that is no digit stands between
+// numbers, and the last one ends its line.
 use libc::STDIN_FILENO;
 use libc::STDOUT_FILENO;
 use planning::Allocation;
-use planning::Fault;
 use planning::Mode;
 use planning::Outcome;
 ghost use mathlib.Core.Path.{_≡_};
-ghost use Prim.Native.Nat.{_≤_};
+ghost use Prim.Native.Nat.{_≤_, _<_};
 ghost use lib.ListN.{length};
 
 // A number of the input, and where it ends.
@@ -90,18 +90,47 @@ fn least(a: u64, most: usize) -> usize
     if a < most as u64 { a as usize } else { most }
 }
 
-// Prints a number and a space.
-fn show(n: u64) {
-    io::print_decimal(STDOUT_FILENO, n);
-    io::write_all(STDOUT_FILENO, b" ");
+fn print(text: &[u8]) {
+    io::write_all(STDOUT_FILENO, text);
 }
 
-// Prints every number of a list.
-fn show_all(list: &[u64]) {
-    let mut i = 0;
-    while i < list.len() {
-        show(list[i]);
-        i += 1;
+// Prints a space and a number.
+fn show(n: u64) {
+    print(b" ");
+    io::print_decimal(STDOUT_FILENO, n);
+}
+
+// Where the numbers that equal the one at a place end.
+fn run_end(list: &[u64], from: usize) -> usize
+    requires { ⌜ from < length (now list) ⌝ }
+    ensures { λ r. ⌜ (from < r) × (r ≤ length (now (list .entry))) ⌝ }
+{
+    let mut at = from + 1;
+    while at < list.len() {
+        if list[at] != list[from] {
+            return at;
+        }
+        at += 1;
+    }
+    at
+}
+
+// Prints a number, and how often it stands in a row where that is more than once.
+fn show_run(n: u64, times: usize) {
+    show(n);
+    if 1 < times {
+        print(b"*");
+        io::print_decimal(STDOUT_FILENO, times as u64);
+    }
+}
+
+// Prints the numbers of a list.
+fn show_list(list: &[u64]) {
+    let mut from = 0;
+    while from < list.len() {
+        let end = run_end(list, from);
+        show_run(list[from], end - from);
+        from = end;
     }
 }
 
@@ -122,46 +151,31 @@ fn show_changed(list: &[u64], pattern: u64) {
 fn show_lent(list: &[u64], lent: usize, pattern: u64)
     requires { ⌜ lent ≤ length (now list) ⌝ }
 {
-    io::write_all(STDOUT_FILENO, b"| ");
-    show_all(&list[..lent]);
+    show_list(&list[..lent]);
+    print(b", behind it changed");
     show_changed(&list[lent..], pattern);
-}
-
-// Document 01's number of a fault.
-fn fault_number(fault: Fault) -> u64 {
-    match fault {
-        Fault::Size => 1,
-        Fault::Grammar => 2,
-        Fault::Fields => 3,
-        Fault::Kind => 4,
-        Fault::Name => 5,
-        Fault::Value => 6,
-        Fault::Count => 7,
-        Fault::NoEngine => 8,
-        Fault::Space => 9,
-    }
 }
 
 // Prints what the allocation returned.
 fn show_allocation(allocation: Allocation) {
     match allocation {
         Allocation::Refused(refusal) => {
-            io::write_all(STDOUT_FILENO, b"refused ");
+            print(b"  refused");
             let fault = refusal.fault;
-            show(fault_number(fault));
+            show(planning::number_of(fault));
             show(refusal.place);
         }
         Allocation::Answered(answer) => {
             let outcome = answer.outcome;
             match outcome {
                 Outcome::Found => {
-                    io::write_all(STDOUT_FILENO, b"found ");
+                    print(b"  found");
                 }
                 Outcome::None => {
-                    io::write_all(STDOUT_FILENO, b"none ");
+                    print(b"  none");
                 }
                 Outcome::Stopped => {
-                    io::write_all(STDOUT_FILENO, b"stopped ");
+                    print(b"  stopped");
                 }
             }
             show(answer.minutes);
@@ -228,6 +242,46 @@ fn pattern_spare() -> [u64; 24]
     [8; 24]
 }
 
+// Prints a mode.
+fn show_mode(mode: Mode) {
+    match mode {
+        Mode::Fixed => print(b" fixed"),
+        Mode::Shortest => print(b" shortest"),
+    }
+}
+
+// Prints what a call is made with.
+fn show_call<'a>(
+    mode: Mode,
+    minutes: u64,
+    allowance: u64,
+    watts: &'a [u64],
+    fuels: &'a [u64],
+    energies: &'a [u64],
+    limits: &'a [u64],
+) {
+    show_mode(mode);
+    show(minutes);
+    show(allowance);
+    print(b", watts");
+    show_list(watts);
+    print(b", fuels");
+    show_list(fuels);
+    print(b", energies");
+    show_list(energies);
+    print(b", limits");
+    show_list(limits);
+}
+
+// Prints how much of the table and of the spare list is lent.
+fn show_lengths(table_len: usize, spare_len: usize) {
+    print(b", lent");
+    show(table_len as u64);
+    print(b" and");
+    show(spare_len as u64);
+    print(b"\n");
+}
+
 // Runs the plan of four lists with the front of a table and of a spare list lent, and prints what it answers and leaves in them.
 fn run_lists<'a>(
     mode: Mode,
@@ -243,6 +297,8 @@ fn run_lists<'a>(
     requires { ⌜ «table_len» ≤ 1000 ⌝ }
     requires { ⌜ «spare_len» ≤ 20 ⌝ }
 {
+    show_call(mode, minutes, allowance, watts, fuels, energies, limits);
+    show_lengths(table_len, spare_len);
     let mut table = pattern_table();
     let mut spare = pattern_spare();
     let r = allocation::allocate(
@@ -257,9 +313,11 @@ fn run_lists<'a>(
         &mut spare[..spare_len],
     );
     show_allocation(r);
+    print(b", table");
     show_lent(&table, table_len, 7);
+    print(b", spare");
     show_lent(&spare, spare_len, 8);
-    io::write_all(STDOUT_FILENO, b"\n");
+    print(b"\n");
 }
 
 // Runs the plan whose lengths begin at a place, and answers where it ends.
@@ -291,30 +349,55 @@ fn run(input: &[u8], from: usize, mode: Mode, minutes: u64, allowance: u64) -> u
     after
 }
 
-// Runs the plans of the input, at most as many as there are turns.
-fn run_all(input: &[u8], turns: usize) {
+// Where the line that begins at a place ends.
+fn line_end(input: &[u8], from: usize) -> usize
+    requires { ⌜ from ≤ length (now input) ⌝ }
+    ensures { λ r. ⌜ (from ≤ r) × (r ≤ length (now (input .entry))) ⌝ }
+{
+    let mut at = from;
+    while at < input.len() {
+        if input[at] == b'\n' {
+            return at;
+        }
+        at += 1;
+    }
+    at
+}
+
+// Runs the plan whose numbers begin at a place, and answers where it ends.
+fn run_plan(input: &[u8], from: usize) -> usize {
+    let mode = number(input, from);
+    let minutes = number(input, mode.next);
+    let allowance = number(input, minutes.next);
+    run(
+        input,
+        allowance.next,
+        mode_of(mode.value),
+        minutes.value,
+        allowance.value,
+    )
+}
+
+// Runs the plans of the input, each behind its title.
+fn run_all(input: &[u8]) {
     let mut at = 0;
-    let mut i = 0;
-    while i < turns {
-        let mode = number(input, at);
-        if mode.next <= at || 1 < mode.value {
+    while at < input.len() {
+        let end = line_end(input, at);
+        print(&input[at..end]);
+        print(b":");
+        let next = run_plan(input, end);
+        if next <= at {
             return;
         }
-        let minutes = number(input, mode.next);
-        let allowance = number(input, minutes.next);
-        at = run(
-            input,
-            allowance.next,
-            mode_of(mode.value),
-            minutes.value,
-            allowance.value,
-        );
-        i += 1;
+        if input.len() <= next {
+            return;
+        }
+        at = next + 1;
     }
 }
 
 fn main() {
     let mut input = io::large_buffer();
     let n = io::read_full(STDIN_FILENO, &mut input);
-    run_all(&input[..n], 10000);
+    run_all(&input[..n]);
 }

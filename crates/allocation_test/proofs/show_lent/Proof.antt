@@ -7,17 +7,17 @@ use borrow.Author.Needs.{needs}
 use Rattle.allocation_test.proofs.show_lent.Statement.{statement}
 use Rattle.allocation_test.proofs.show_lent.Tie as tie
 
-slice-aggregate-write-all : tie.Need-slice-aggregate-write-all
-slice-aggregate-write-all c = search needs
+slice-aggregate-show-list : tie.Need-slice-aggregate-show-list
+slice-aggregate-show-list c = sym (length-take-le _ _ (omega arith))
 
-write-all-requires : tie.Need-write-all-requires
-write-all-requires c κs = search needs
+show-list-requires : tie.Need-show-list-requires
+show-list-requires c κs = search needs
 
-slice-aggregate-show-all : tie.Need-slice-aggregate-show-all
-slice-aggregate-show-all c = sym (length-take-le _ _ (omega arith))
+slice-aggregate-print : tie.Need-slice-aggregate-print
+slice-aggregate-print c = search needs
 
-show-all-requires : tie.Need-show-all-requires
-show-all-requires c κs = search needs
+print-requires : tie.Need-print-requires
+print-requires c κs = search needs
 
 mul-show-changed : tie.Need-mul-show-changed
 mul-show-changed c = search needs
@@ -41,10 +41,10 @@ pub show-lent-spec : {M : Type 1} → statement M
 show-lent-spec =
     tie.close
     (tie.spec
-    slice-aggregate-write-all
-    write-all-requires
-    slice-aggregate-show-all
-    show-all-requires
+    slice-aggregate-show-list
+    show-list-requires
+    slice-aggregate-print
+    print-requires
     mul-show-changed
     sub-show-changed
     part-show-changed-start
