@@ -158,19 +158,20 @@ def plan(title, capacities, deliveries, allowance=100, mode=0, minutes=60):
     call(title, mode, minutes, allowance, capacities, [MOST] * len(capacities), [e for e, _ in deliveries], [n for _, n in deliveries])
 
 
-# document 01's "Plans to try" for 60 minutes: a title, engines by capacity, deliveries as energy and limit, and the allowance
+# document 01's "Plans to try" for 60 minutes: a title, engines by capacity, deliveries as energy and limit, the allowance, and what
+# document 01 says of it
 PLANS_TO_TRY = [
-    ("as printed", [3000, 5000], [(5000, 2), (3000, 2)], 100),
-    ("crosswise", [3000, 5000], [(5000, 1), (3000, 1)], 100),
-    ("5000 fits no engine of 4000", [4000, 4000], [(5000, 1), (3000, 1)], 100),
-    ("three deliveries on two engines", [4000, 4000], [(3000, 1), (3000, 1), (2000, 1)], 100),
-    ("three on two, allowance 4", [4000, 4000], [(3000, 1), (3000, 1), (2000, 1)], 4),
-    ("three on two, allowance 3", [4000, 4000], [(3000, 1), (3000, 1), (2000, 1)], 3),
-    ("the same with 2000/2", [4000, 4000], [(3000, 1), (3000, 1), (2000, 2)], 100),
-    ("6000 from two of three engines", [2000, 2000, 2000], [(6000, 2)], 100),
-    ("straight fill with allowance 0", [4000, 4000], [(3000, 2), (5000, 3)], 0),
-    ("an engine of 0", [0, 5000], [(5000, 2)], 100),
-    ("no deliveries", [3000], [], 100),
+    ("as printed", [3000, 5000], [(5000, 2), (3000, 2)], 100, ("found", 2)),
+    ("crosswise", [3000, 5000], [(5000, 1), (3000, 1)], 100, ("found", 2)),
+    ("5000 fits no engine of 4000", [4000, 4000], [(5000, 1), (3000, 1)], 100, ("none", 0)),
+    ("three deliveries on two engines", [4000, 4000], [(3000, 1), (3000, 1), (2000, 1)], 100, ("none", 4)),
+    ("three on two, allowance 4", [4000, 4000], [(3000, 1), (3000, 1), (2000, 1)], 4, ("none", 4)),
+    ("three on two, allowance 3", [4000, 4000], [(3000, 1), (3000, 1), (2000, 1)], 3, ("stopped", 3)),
+    ("the same with 2000/2", [4000, 4000], [(3000, 1), (3000, 1), (2000, 2)], 100, ("found", 4)),
+    ("6000 from two of three engines", [2000, 2000, 2000], [(6000, 2)], 100, ("none", 3)),
+    ("straight fill with allowance 0", [4000, 4000], [(3000, 2), (5000, 3)], 0, ("found", 0)),
+    ("an engine of 0", [0, 5000], [(5000, 2)], 100, ("found", 0)),
+    ("no deliveries", [3000], [], 100, ("found", 0)),
 ]
 # plans that tell document 01's search from others
 CLOSE_PLANS = [
@@ -256,8 +257,9 @@ def random_calls():
 
 
 def calls():
-    for title, *what in PLANS_TO_TRY:
-        plan("plans to try, " + title, *what)
+    for title, capacities, deliveries, allowance, told in PLANS_TO_TRY:
+        assert search(capacities, deliveries, allowance)[:2] == told, title
+        plan("plans to try, " + title, capacities, deliveries, allowance)
     plan("plans to try, no deliveries as shortest", [3000], [], mode=1)
     plan("plans to try, as printed as shortest, 120 minutes", [3000, 5000], [(5000, 2), (3000, 2)], mode=1, minutes=120)
     plan("as printed as shortest, 60 minutes", [3000, 5000], [(5000, 2), (3000, 2)], mode=1)
