@@ -185,6 +185,8 @@ CLOSE_PLANS = [
     ("5/3 is bulkier than 2/2", [5, 2], [(5, 3), (2, 2)]),
     ("limit 1 before a bulkier one", [5, 5], [(6, 2), (3, 1)]),
     ("two layings put back", [6, 5], [(5, 1), (3, 1), (3, 1)]),
+    ("two cuts and a laying reach limit 3", [1, 1, 2], [(4, 3)]),
+    ("limit 3 and four engines needed", [1, 1, 1, 1], [(4, 3)]),
 ]
 WIDE = 2**64 - 1
 # refusals, each by one fault
@@ -231,6 +233,7 @@ ORDER = [
     ("8 before 9", 0, 60, 9, [], [], [5], [1], 1),
     ("8 before 6", 0, 0, 9, [], [], [0], [1]),
     ("7 before 9", 0, 60, 9, [1] * 13, [1] * 13, [5], [1], 12, 12),
+    ("7 before 9, deliveries", 0, 60, 9, [1], [1], [5] * 65, [1] * 65, 64),
     ("7 before 6", 0, 0, 9, [1] * 13, [1] * 13, [], []),
     ("7 before 6, deliveries", 0, 60, 9, [1], [1], [0] * 65, [1] * 65),
     ("9 before 6, the table", 0, 0, 9, [1], [1], [5], [1], 2),

@@ -173,7 +173,7 @@ def written(v):
     field = v if NON_ESCAPED.fullmatch(v) else b'"' + v.replace(b'"', b'""') + b'"'
     if len(field) > 22:
         return b"." * 24, b"nothing: too long"
-    return b".." + field + b"." * (22 - len(field)), valued(field)
+    return b".." + field + b"." * (22 - len(field)), valued(field) + (b", with a byte less too long" if v else b"")
 
 
 def write(v):

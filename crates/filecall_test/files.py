@@ -310,7 +310,7 @@ def expected(title, file, told, table, spare, output, size, pad):
         assert told == (number_, record), (title, refusal.args)
         line = b"refused,%d,%d,0\r\n" % (number_, record)
         print_, cells, left = b"", [], []
-        text += b"refused %d %d, line %d %b" % (number_, record, len(line), examples.shown(line.ljust(20, b".")))
+        text += b"refused %d %d, line %d %b, with a byte less 0" % (number_, record, len(line), examples.shown(line.ljust(20, b".")))
     changed = [b"".join(b" %d:%d" % pair for pair in enumerate(x)) + (b" others kept" if x else b" kept") for x in (cells, left)]
     text += b", print %d %b\n" % (len(print_), examples.shown(print_))
     return text + b"table%b, spare%b, output behind the print kept\n" % tuple(changed)

@@ -65,10 +65,19 @@ fn show(text: &[u8]) {
     print(b"]");
 }
 
-// The value of a field with doubled quotes.
-fn show_undone(raw: &[u8]) {
+// A number, or the most where it is more.
+fn least(n: usize, most: usize) -> usize
+    ensures { λ r. ⌜ r ≤ most ⌝ }
+{
+    if n < most { n } else { most }
+}
+
+// The value of a field with doubled quotes, with so much space to undo them in.
+fn show_undone(raw: &[u8], room: usize)
+    requires { ⌜ room ≤ 4096 ⌝ }
+{
     let mut space = io::buffer();
-    let undone = csv::undo(raw, &mut space);
+    let undone = csv::undo(raw, &mut space[..room]);
     match undone {
         csv::Undone::Length(n) => show(&space[..n]),
         csv::Undone::TooLong => print(b"too long"),
@@ -82,7 +91,7 @@ fn show_value(raw: &[u8]) {
     match form {
         csv::FieldForm::Broken => print(b"broken"),
         csv::FieldForm::Part => show(csv::part_of(raw)),
-        csv::FieldForm::Doubled => show_undone(raw),
+        csv::FieldForm::Doubled => show_undone(raw, 4096),
     }
 }
 
@@ -163,6 +172,16 @@ fn show_file(file: &[u8]) {
     show_fields(file);
 }
 
+// A value of n bytes read back from what it was written as, with just enough space and with a byte less.
+fn show_back(raw: &[u8], n: usize) {
+    let room = least(n, 4096);
+    show_undone(raw, room);
+    if 0 < room {
+        print(b", with a byte less ");
+        show_undone(raw, room - 1);
+    }
+}
+
 // What a value is written as between dots, and the value read back from there.
 fn show_written(value: &[u8]) {
     print(b"value ");
@@ -173,7 +192,7 @@ fn show_written(value: &[u8]) {
     show(&out);
     print(b"\nread back ");
     match wrote {
-        csv::Wrote::Next(next) => show_undone(&out[2..next]),
+        csv::Wrote::Next(next) => show_back(&out[2..next], value.len()),
         csv::Wrote::Refused => print(b"nothing: refused"),
         csv::Wrote::TooLong => print(b"nothing: too long"),
     }

@@ -22,6 +22,13 @@ fn print(text: &[u8]) {
     io::write_all(STDOUT_FILENO, text);
 }
 
+// A number, or the most where it is more.
+fn least(n: usize, most: usize) -> usize
+    ensures { λ r. ⌜ r ≤ most ⌝ }
+{
+    if n < most { n } else { most }
+}
+
 // Prints a space and a number.
 fn show_number(n: u64) {
     print(b" ");
@@ -147,6 +154,13 @@ fn output_room() -> [u8; 6800]
     output
 }
 
+// Room for the line of a refusal.
+fn line_room() -> [u8; 20]
+    ensures { λ r. ⌜ 20 ≡ length r ⌝ }
+{
+    [b'.'; 20]
+}
+
 // Room for a file that is a byte too long.
 fn file_room() -> [u8; 32769]
     ensures { λ r. ⌜ 32769 ≡ length r ⌝ }
@@ -211,17 +225,37 @@ fn show_changed_bytes(output: &[u8], from: usize) {
     show_kept(kept);
 }
 
-// Prints a refusal, and what the program `planner` prints of it, between dots.
+// The length of the line of a refusal, where so much space is lent for it.
+fn line_length(refusal: Refusal, room: usize) -> usize
+    requires { ⌜ room ≤ 20 ⌝ }
+{
+    let mut line = line_room();
+    filecall::write_refusal(refusal, &mut line[..room])
+}
+
+// Prints the line of a refusal, where so much of the space is lent for it, and the dots behind it.
+fn show_line(refusal: Refusal, room: usize)
+    requires { ⌜ room ≤ 20 ⌝ }
+{
+    let mut line = line_room();
+    let n = filecall::write_refusal(refusal, &mut line[..room]);
+    print(b", line");
+    show_number(n as u64);
+    show(&line);
+}
+
+// Prints a refusal, and what the program `planner` prints of it, with just enough space and with a byte less.
 fn show_refusal(refusal: Refusal) {
     print(b"refused");
     let fault = refusal.fault;
     show_number(planning::number_of(fault));
     show_number(refusal.place);
-    let mut line = [b'.'; 20];
-    let n = filecall::write_refusal(refusal, &mut line);
-    print(b", line");
-    show_number(n as u64);
-    show(&line);
+    let n = least(line_length(refusal, 20), 20);
+    show_line(refusal, n);
+    if 0 < n {
+        print(b", with a byte less");
+        show_number(line_length(refusal, n - 1) as u64);
+    }
 }
 
 // Prints an answer.
@@ -248,13 +282,6 @@ fn show_answer(answer: FileAnswer) -> usize {
             0
         }
     }
-}
-
-// A number, or the most where it is more.
-fn least(n: usize, most: usize) -> usize
-    ensures { λ r. ⌜ r ≤ most ⌝ }
-{
-    if n < most { n } else { most }
 }
 
 // What a case lends, the length of its file, and the byte that fills it up.

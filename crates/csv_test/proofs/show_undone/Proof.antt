@@ -1,23 +1,36 @@
--- `csv_test::show_undone` is safe: a value that is undone fits the buffer. Assumes nothing.
-use mathlib.Core.Path.{sym, _∙_}
+-- `csv_test::show_undone` is safe: a value that is undone fits the space. Assumes nothing.
+use mathlib.Core.Path.{_≡_, sym, _∙_}
+use mathlib.Core.List.{_++_}
 use Prim.Native.Nat.{_≤_}
 use native.Mathlib.Omega.{arith}
-use lib.ListN.{length}
-use lib.Seq.{length-take-le}
-use borrow.Author.Needs.{needs}
+use lib.ListN.{length, drop}
+use lib.Seq.{length-take-le, length-front}
 use Rattle.csv.specs.Laws.Bounds.{undone-within}
+use borrow.Author.Needs.{needs}
 use Rattle.csv_test.proofs.show_undone.Statement.{statement}
 use Rattle.csv_test.proofs.show_undone.Tie as tie
 
--- the value fits the buffer
-fits : (c : tie.After-undone) → c .undone .given .0 .0 ≤ length (c .before .before .before .before .before .buffer .result)
-fits c = undone-within _ _ _ (sym (c .undone .given .1) ∙ c .before .before .before .undo .ensures .0)
+-- after the call the space is as long as before
+space-back : (c : tie.After-undo) → 4096 ≡ length (c .undo .last .1 .0 ++ drop (c .before .before .before .before .args .room) (c .before .before .buffer .result))
+space-back c =
+    let made = c .before .before .buffer in
+    omega (arith, length-front (made .result) (c .undo .last .1 .0) (c .before .before .before .before .args .room) (c .undo .kept .1 .0), made .ensures)
+
+-- the value fits it
+fits : (c : tie.After-undone) → c .undone .given .0 .0 ≤ 4096
+fits c =
+    let undo = c .before .before .before in
+    let within = undone-within _ _ _ (sym (c .undone .given .1) ∙ undo .undo .ensures .0) in
+    omega (arith, within, length-take-le (undo .before .before .before .before .args .room) (undo .before .before .buffer .result) (omega (arith, undo .before .before .before .before .pre, undo .before .before .buffer .ensures)), undo .before .before .before .before .pre)
 
 buffer-requires : tie.Need-buffer-requires
 buffer-requires c κs = search needs
 
+array-borrow-prefix-space : tie.Need-array-borrow-prefix-space
+array-borrow-prefix-space c = search needs
+
 slice-aggregate-undo : tie.Need-slice-aggregate-undo
-slice-aggregate-undo c = search needs
+slice-aggregate-undo c = sym (length-take-le _ _ (omega (arith, c .before .buffer .ensures)))
 
 undo-requires : tie.Need-undo-requires
 undo-requires c κs = search needs
@@ -26,10 +39,10 @@ enum-known-undone : tie.Need-enum-known-undone
 enum-known-undone c = search needs
 
 array-share-prefix-space : tie.Need-array-share-prefix-space
-array-share-prefix-space c = omega (arith, fits (c .before))
+array-share-prefix-space c = omega (arith, fits (c .before), space-back (c .before .before .before .before))
 
 slice-aggregate-show : tie.Need-slice-aggregate-show
-slice-aggregate-show c = sym (length-take-le _ _ (omega (arith, fits (c .before .before), c .before .before .before .before .before .undo .kept .1 .0)))
+slice-aggregate-show c = sym (length-take-le _ _ (array-share-prefix-space (c .before)))
 
 show-requires : tie.Need-show-requires
 show-requires c κs = search needs
@@ -66,6 +79,7 @@ show-undone-spec =
     tie.close
     (tie.spec
     buffer-requires
+    array-borrow-prefix-space
     slice-aggregate-undo
     undo-requires
     enum-known-undone

@@ -47,17 +47,17 @@ print-requires-3 c κs = search needs
 enum-known-wrote : tie.Need-enum-known-wrote
 enum-known-wrote c = search needs
 
-sub-show-undone : tie.Need-sub-show-undone
-sub-show-undone c = omega (arith, within (c .before))
+sub-show-back : tie.Need-sub-show-back
+sub-show-back c = omega (arith, within (c .before))
 
-part-show-undone-start : tie.Need-part-show-undone-start
-part-show-undone-start c = omega (arith, within (c .before .before))
+part-show-back-start : tie.Need-part-show-back-start
+part-show-back-start c = omega (arith, within (c .before .before))
 
-part-show-undone-end : tie.Need-part-show-undone-end
-part-show-undone-end c = omega (arith, within (c .before .before), c .before .before .before .before .before .before .before .before .before .before .before .write-field .kept .1 .0)
+part-show-back-end : tie.Need-part-show-back-end
+part-show-back-end c = omega (arith, within (c .before .before), c .before .before .before .before .before .before .before .before .before .before .before .write-field .kept .1 .0)
 
-show-undone-requires : tie.Need-show-undone-requires
-show-undone-requires c κs = search needs
+show-back-requires : tie.Need-show-back-requires
+show-back-requires c κs = search needs
 
 enum-told : tie.Need-enum-told
 enum-told c = search needs
@@ -102,10 +102,10 @@ show-written-spec =
     slice-aggregate-print-3
     print-requires-3
     enum-known-wrote
-    sub-show-undone
-    part-show-undone-start
-    part-show-undone-end
-    show-undone-requires
+    sub-show-back
+    part-show-back-start
+    part-show-back-end
+    show-back-requires
     enum-told
     slice-aggregate-print-4
     print-requires-4

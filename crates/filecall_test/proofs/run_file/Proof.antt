@@ -1,19 +1,14 @@
 -- `filecall_test::run_file` is safe and ends: what it lends lies within the room for it, before the call and after.
 -- Assumes nothing.
 use mathlib.Core.Path.{_≡_, sym}
-use mathlib.Core.List.{List, _++_}
-use Prim.Native.Nat.{ℕ}
-use lib.ListN.{length, take, drop}
-use lib.Seq.{length-take-le, length-front}
+use mathlib.Core.List.{_++_}
+use lib.ListN.{length, drop}
+use lib.Seq.{length-take-le}
 use native.Mathlib.Omega.{arith}
 use borrow.Author.Needs.{needs}
+use Rattle.filecall_test.proofs.Front.{still-long}
 use Rattle.filecall_test.proofs.run_file.Statement.{statement}
 use Rattle.filecall_test.proofs.run_file.Tie as tie
-
--- a list whose front was lent and came back with as many numbers is as long as before
-still-long : (whole front : List ℕ) (n : ℕ) → length front ≡ length (take n whole) → (size : ℕ) → size ≡ length whole
-    → size ≡ length (front ++ drop n whole)
-still-long whole front n back size h = omega (arith, length-front whole front n back)
 
 -- after the call the table, the spare list and the output are as long as before
 table-back : (c : tie.After-plan-file) →
