@@ -27,7 +27,7 @@ def number(text, low, high):
     return value if low <= value <= high else None
 
 
-def item(kind, fields, items, most, ranges, record):
+def item(fields, items, most, ranges, record):
     """adds an engine or a delivery"""
     if len(items) == most:
         raise Refused(7, record)
@@ -58,9 +58,9 @@ def read(file):
             if None in head:
                 raise Refused(6, record)
         elif fields[0] == b"engine":
-            item("engine", fields, engines, 12, [(0, 5_000_000), (0, MOST)], record)
+            item(fields, engines, 12, [(0, 5_000_000), (0, MOST)], record)
         else:
-            item("delivery", fields, deliveries, 64, [(1, MOST), (1, 12)], record)
+            item(fields, deliveries, 64, [(1, MOST), (1, 12)], record)
     if not engines:
         raise Refused(8, 0)
     return head, engines, deliveries
@@ -83,7 +83,7 @@ def call(file, table, spare, output):
     head, engines, deliveries = read(file)
     if table != 768 or spare != 12:
         raise Refused(9, 0)
-    lists = [[n[0] for n in engines.values()], [n[1] for n in engines.values()], [n[0] for n in deliveries.values()], [n[1] for n in deliveries.values()]]
+    lists = [[numbers[k] for numbers in items.values()] for items in (engines, deliveries) for k in (0, 1)]
     word, minutes, tries, cells, left = plans.answer(*head, *lists, len(engines) * len(deliveries), len(engines))
     text = printed(word, minutes, tries, engines, deliveries, cells)
     if len(text) > output:
@@ -94,7 +94,7 @@ def call(file, table, spare, output):
 CASES = []
 
 
-def case(title, file, told=None, table=768, spare=12, output=6715, size=None, pad=b"."):
+def case(title, file, told, table=768, spare=12, output=6715, size=None, pad=b"."):
     """a case; told is what document 01 says: number and record of a refusal, or the word and its numbers"""
     CASES.append((title, file, told, table, spare, output, len(file) if size is None else size, pad))
 
@@ -117,6 +117,7 @@ def plan_file(capacities, deliveries, allowance, mode="fixed", minutes=60):
 
 PLAN, ENGINE = "plan,fixed,60,9", "engine,E1,5,5"
 EXAMPLE = plan_file([3000, 5000], [(5000, 2), (3000, 2)], 100)
+PRINTED = lines("found,60,2,3", "piece,D1,E1,3000", "piece,D1,E2,2000", "piece,D2,E2,3000")
 ENGINES12, ENGINES13 = numbered("engine", 1, 12, "5,5"), numbered("engine", 1, 13, "5,5")
 DELIVERIES64, DELIVERIES65 = numbered("delivery", 1, 64, "1,1"), numbered("delivery", 1, 65, "1,1")
 NAME17 = "ABCDEFGHIJKLMNOPQ"
@@ -266,6 +267,7 @@ def lent():
 
 
 def accepted():
+    assert call(EXAMPLE, 768, 12, 6715)[3] == PRINTED
     for title, capacities, deliveries, allowance, (word, tries) in plans.PLANS_TO_TRY:
         case("plans to try, " + title, plan_file(capacities, deliveries, allowance), (word, 60, tries))
     case("plans to try, no deliveries as shortest", plan_file([3000], [], 100, "shortest"), ("found", 1, 0))
@@ -303,7 +305,7 @@ def expected(title, file, told, table, spare, output, size, pad):
     text += b", lent %d %d %d\n" % (table, spare, output)
     try:
         word, minutes, tries, print_, cells, left = call(whole, table, spare, output)
-        assert told in (None, (word, minutes, tries)), title
+        assert told == (word, minutes, tries), (title, word, minutes, tries)
         text += b"%b %d %d" % (word.encode(), minutes, tries)
     except Refused as refusal:
         number_, record = refusal.args
