@@ -182,7 +182,8 @@ CLOSE_PLANS = [
     ("a cut put back", [1, 2, 2], [(4, 2)]),
     ("no cut of nothing", [0, 1, 1], [(2, 2)]),
     ("equal bulk again, a large engine", [1, 7], [(4, 2), (4, 2)]),
-    ("5/3 is bulkier than 2/2", [5, 2], [(5, 3), (2, 2)]),
+    ("5/3 is bulkier than 2/2", [1, 6], [(2, 2), (5, 3)]),
+    ("5/3 is bulkier than 2/2 and the earlier", [5, 2], [(5, 3), (2, 2)]),
     ("limit 1 before a bulkier one", [5, 5], [(6, 2), (3, 1)]),
     ("two layings put back", [6, 5], [(5, 1), (3, 1), (3, 1)]),
     ("two cuts and a laying reach limit 3", [1, 1, 2], [(4, 3)]),
@@ -282,13 +283,14 @@ def calls():
         call("refused by " + title, *what)
     for title, *what in ORDER:
         call("order, " + title, *what)
-    call("the largest numbers", 0, 10080, MOST, [5000000] * 12, [MOST] * 12, [MOST] * 12, [12] * 12)
-    call("the largest numbers as shortest", 1, 10080, 1000, [5000000] * 12, [MOST] * 12, [MOST] * 11 + [MOST // 2], [2] * 12)
-    plan("64 deliveries laid on 12 engines", [1000] * 12, [(187, 1)] * 64, 2000)
+    for mode, word in [(0, "fixed"), (1, "shortest")]:
+        call(f"the largest numbers as {word}, 10 deliveries", mode, 10080, MOST, [5000000] * 12, [MOST] * 12, [MOST] * 10, [12] * 10)
+        call(f"the largest numbers as {word}, more than the capacity", mode, 10080, MOST, [5000000] * 12, [MOST] * 12, [MOST] * 12, [12] * 12)
+    plan("64 deliveries to lay, stopped after 2000 tries", [1000] * 12, [(187, 1)] * 64, 2000)
     plan("13 on 12, stopped after 5000 tries", [1000] * 12, [(900, 1)] * 13, 5000)
     plan("7 cut on 12, stopped after 5000 tries", [1000] * 12, [(1600, 2)] * 7, 5000)
     plan("64 deliveries filled straight", [100] * 12, [(18, 2)] * 64, 0)
-    plan("64 deliveries as shortest", [100] * 12, [(18, 1)] * 64, 500, 1, 10080)
+    plan("64 deliveries as shortest, stopped at a shorter time", [100] * 12, [(18, 1)] * 64, 500, 1, 10080)
     random_calls()
 
 
