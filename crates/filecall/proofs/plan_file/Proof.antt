@@ -1,7 +1,6 @@
 -- `plan_file` meets its contract: by what the file is read as, and by the lengths of what is lent. That the clauses follow from the definitions
 -- is in planfile's Laws/Promises. Assumes nothing.
 use mathlib.Core.Logic.{⊎-elim}
-use borrow.Author.Needs.{needs}
 use borrow.Author.Tests.{eqb-true, eqb-false}
 use Rattle.planfile.specs.FileCall.{FileCall}
 use Rattle.planfile.specs.Reading.{fault}
@@ -15,13 +14,13 @@ abbrev call-of : tie.Start → FileCall
 call-of start = callWith (start .args .file .now) (start .args .table .now) (start .args .spare .now) (start .args .output .now)
 
 read-requires : tie.Need-read-requires
-read-requires c κs = search needs
+read-requires c κs = tt
 
 enum-known-verdict : tie.Need-enum-known-verdict
-enum-known-verdict c = search needs
+enum-known-verdict c = c .match .keys1
 
 enum-told : tie.Need-enum-told
-enum-told c = search needs
+enum-told c = c .match .keys2
 
 returns : tie.Need-returns
 unfolding fault
@@ -44,13 +43,13 @@ returns-2 c =
     promised-refusal call _ (file-refused call _ (read-refused _ _ _ (c .before .before .before .read .ensures) (c .before .verdict .given .1)))
 
 same-length : tie.Need-same-length
-same-length c = search needs
+same-length c = c .before .before .before .before .before .table .given
 
 same-length-2 : tie.Need-same-length-2
-same-length-2 c = search needs
+same-length-2 c = c .before .before .before .spare .given
 
 same-length-3 : tie.Need-same-length-3
-same-length-3 c = search needs
+same-length-3 c = c .before .output .given
 
 returns-3 : tie.Need-returns-3
 returns-3 c =

@@ -9,12 +9,15 @@ use lib.Dec.{leb}
 use lib.ListN.{length, take, drop, length-append, length-drop, drop-of-length-le}
 use lib.Seq.{length-take-le}
 use Rattle.csv.specs.Writer.{writable}
+use Rattle.planning.specs.declared.Allocation.{Allocation}
 use Rattle.planning.specs.declared.Allocation.the-variants.{Answered}
+use Rattle.planning.specs.declared.Allocation.the-variants as allocations
 use Rattle.planning.specs.declared.Answer.{Answer}
 use Rattle.planning.specs.declared.Fault.the-variants.{Space}
 use Rattle.planning.specs.declared.Mode.{Mode}
 use Rattle.planning.specs.declared.Outcome.{Outcome}
 use Rattle.planning.specs.declared.Outcome.the-variants.{Found, None, Stopped}
+use Rattle.planning.specs.declared.Refusal.{Refusal}
 use Rattle.planning.specs.Laws.Modes.{planned-searched}
 use Rattle.planning.specs.Laws.Numbers.{unrefused-iff}
 use Rattle.planning.specs.Laws.Soundness.{plan-length}
@@ -23,6 +26,7 @@ use Rattle.planning.specs.Numbers.{Call, Accepted, planOf, enginesOf, deliverie
 use Rattle.planning.specs.Plan.{Plan, All, InRange}
 use Rattle.planning.specs.Search.{Result, found, none, stopped, at}
 use Rattle.allocation.specs.Numbers.{callOn}
+use Rattle.planfile.specs.declared.FileAnswer.{FileAnswer}
 use Rattle.planfile.specs.declared.FileAnswer.the-variants.{Printed, Refused}
 use Rattle.planfile.specs.FileCall.{answerBy, onExit, printed}
 use Rattle.planfile.specs.FilePlan.{FilePlan, NamedEngine, NamedDelivery, unnamed, engineOf, deliveryOf}
@@ -99,7 +103,7 @@ module _ (mode : Mode) (minutes allowance engines deliveries : ℕ) (e d : Colum
         }
 
     -- it is answered
-    pub call-answered : (allocation call ≡ Answered (answerOf (planned (unnamed f)))) × (tableOnExit call ≡ tableAfter (unnamed f) table)
+    call-answered : (allocation call ≡ Answered (answerOf (planned (unnamed f)))) × (tableOnExit call ≡ tableAfter (unnamed f) table)
         × (spareOnExit call ≡ sparesAfter (unnamed f) spare)
     unfolding allocation answeredBy tableOnExit spareOnExit unlessRefused
     call-answered =
@@ -141,7 +145,7 @@ module _ (f : FilePlan) (ranges : InRange (unnamed f)) (output : List ℕ) where
   abbrev fits : Bool
   fits = leb (length (printed f)) (length output)
 
-  pub handed-answer : answerIf fits (answerOf (planned (unnamed f))) (length (printed f)) ≡ answerBy (withSpace f output)
+  handed-answer : answerIf fits (answerOf (planned (unnamed f))) (length (printed f)) ≡ answerBy (withSpace f output)
   handed-answer = unfold withSpace in go fits
     where
       go : (t : Bool) → answerIf t (answerOf (planned (unnamed f))) (length (printed f)) ≡ answerBy (_>>=_ (require t Space 0) (λ u. accepted f))
@@ -159,14 +163,14 @@ module _ (f : FilePlan) (ranges : InRange (unnamed f)) (output : List ℕ) where
   numbers-cond true o new lent = refl
   numbers-cond false o new lent = refl
 
-  pub handed-table : (own lent : List ℕ) → length own ≡ length ((unnamed f) .deliveries) * length ((unnamed f) .engines)
+  handed-table : (own lent : List ℕ) → length own ≡ length ((unnamed f) .deliveries) * length ((unnamed f) .engines)
       → numbersIf fits (answerOf (planned (unnamed f)) .outcome) (tableAfter (unnamed f) own) lent
       ≡ onExit (withSpace f output) lent (λ g. tableAfter (unnamed g) lent)
   unfolding answerOf tableAfter withSpace
   handed-table own lent l =
       numbers-cond fits _ _ lent ∙ by-space fits lent _ _ (found-table (unnamed f) ranges (planned (unnamed f) .result) refl own lent l)
 
-  pub handed-spare : (own lent : List ℕ) → length own ≡ length ((unnamed f) .engines)
+  handed-spare : (own lent : List ℕ) → length own ≡ length ((unnamed f) .engines)
       → numbersIf fits (answerOf (planned (unnamed f)) .outcome) (sparesAfter (unnamed f) own) lent
       ≡ onExit (withSpace f output) lent (λ g. sparesAfter (unnamed g) lent)
   unfolding answerOf sparesAfter withSpace
@@ -174,7 +178,7 @@ module _ (f : FilePlan) (ranges : InRange (unnamed f)) (output : List ℕ) where
       numbers-cond fits _ _ lent
       ∙ by-space fits lent _ _ (found-spare (unnamed f) ranges (planned (unnamed f) .result) (planned (unnamed f) .minutes) own lent l)
 
-  pub handed-output : bytesIf fits (printed f) output ≡ onExit (withSpace f output) output (λ g. overFront (printed g) output)
+  handed-output : bytesIf fits (printed f) output ≡ onExit (withSpace f output) output (λ g. overFront (printed g) output)
   unfolding withSpace
   handed-output = go fits
     where
@@ -248,7 +252,7 @@ module _ {p : ByValue} (u : UsablePlan p) where
   delivery-names = column-names deliveryOf (λ (i : NamedDelivery). i .name) (λ t a b. refl) (u .deliveries) (u .deliveriesNamed)
 
   -- as many engines and deliveries as are counted
-  pub plan-counts : (length ((unnamed held) .engines) ≡ p .engines) × (length ((unnamed held) .deliveries) ≡ p .deliveries)
+  plan-counts : (length ((unnamed held) .engines) ≡ p .engines) × (length ((unnamed held) .deliveries) ≡ p .deliveries)
   unfolding itemsIn
   plan-counts = (engine-count held ∙ length-tabulated (p .engines) _, delivery-count held ∙ length-tabulated (p .deliveries) _)
 
@@ -297,3 +301,61 @@ module _ {p : ByValue} (u : UsablePlan p) where
 
   pub held-short : length (printed held) ≤ 6715
   held-short = print-length held (u .enginesNamed) (u .deliveriesNamed) (u .inRange)
+
+-- ---- the calls on it, over variables, so that a caller's facts are joined here and not in its large context
+
+answered-as : {a : Allocation} {answer answer′ : Answer} → a ≡ Answered answer → a ≡ Answered answer′ → answer ≡ answer′
+answered-as p q = let same : Answered _ ≡ Answered _ = sym p ∙ q in cc
+
+answered-unrefused : {a : Allocation} {answer : Answer} {refusal : Refusal} → a ≡ Answered answer → a ≡ allocations.Refused refusal → ⊥
+answered-unrefused p q =
+    let told : allocations.Refused _ ≡ Answered _ = sym q ∙ p in
+    let z : _≡_ {A = ℕ} 0 1 = cc in
+    absurd (omega arith)
+
+module _ {p : ByValue} (u : UsablePlan p) (own rest : List ℕ) (cells : length own ≡ p .deliveries * p .engines) (count : length rest ≡ p .engines) where
+  abbrev pub callBy : Call
+  callBy = call (p .mode) (p .minutes) (p .allowance) (p .engines) (p .deliveries) (engineColumns p) (deliveryColumns p) (u .engines) (u .deliveries) own rest
+
+  answers : (allocation callBy ≡ Answered (answerOf (planned (unnamed (planBy p))))) × (tableOnExit callBy ≡ tableAfter (unnamed (planBy p)) own)
+      × (spareOnExit callBy ≡ sparesAfter (unnamed (planBy p)) rest)
+  answers =
+      call-answered (p .mode) (p .minutes) (p .allowance) (p .engines) (p .deliveries) (engineColumns p) (deliveryColumns p) (u .engines) (u .deliveries) own rest
+      (u .inRange) cells count
+
+  -- the numbers of a plan are not refused
+  pub plan-unrefused : {a : Allocation} {refusal : Refusal} → a ≡ allocation callBy → a ≡ allocations.Refused refusal → ⊥
+  plan-unrefused is refused = answered-unrefused (is ∙ answers .0) refused
+
+  -- they are answered
+  pub plan-answered : {a : Allocation} {answer : Answer} {pieces spare : List ℕ} → a ≡ allocation callBy → pieces ≡ tableOnExit callBy → spare ≡ spareOnExit callBy
+      → a ≡ Answered answer
+      → (answer ≡ answerOf (planned (unnamed (planBy p)))) × ((pieces ≡ tableAfter (unnamed (planBy p)) own) × (spare ≡ sparesAfter (unnamed (planBy p)) rest))
+  plan-answered is drawn left said = (answered-as said (is ∙ answers .0), (drawn ∙ answers .1, left ∙ answers .2))
+
+  -- and the answer on tables of the plan's own is handed over
+  pub plan-handed : (table spare output : List ℕ) {answer : Answer} {pieces left table′ spare′ output′ : List ℕ} {r : FileAnswer}
+      → answer ≡ answerOf (planned (unnamed (planBy p))) → pieces ≡ tableAfter (unnamed (planBy p)) own → left ≡ sparesAfter (unnamed (planBy p)) rest
+      → ((bytes : List ℕ)
+      → bytes ≡ printBytes answer (nameList (p .deliveries) (p .«delivery_names») (p .«delivery_sizes»)) (nameList (p .engines) (p .«engine_names») (p .«engine_sizes»)) pieces
+      → (r ≡ answerIf (leb (length bytes) (length output)) answer (length bytes))
+      × (table′ ≡ numbersIf (leb (length bytes) (length output)) (answer .outcome) pieces table)
+      × (spare′ ≡ numbersIf (leb (length bytes) (length output)) (answer .outcome) left spare)
+      × (output′ ≡ bytesIf (leb (length bytes) (length output)) bytes output))
+      → (r ≡ answerBy (withSpace (planBy p) output))
+      × ((table′ ≡ onExit (withSpace (planBy p) output) table (λ g. tableAfter (unnamed g) table))
+      × ((spare′ ≡ onExit (withSpace (planBy p) output) spare (λ g. sparesAfter (unnamed g) spare))
+      × (output′ ≡ onExit (withSpace (planBy p) output) output (λ g. overFront (printed g) output))))
+  plan-handed table spare output is drawn spared over =
+      let f = planBy p in
+      let counts = plan-counts u in
+      let facts = rw (is, drawn, spared) at (over (printed f) (sym (print-is u own cells _ _ is drawn))) in (
+        facts .0 ∙ handed-answer f (u .inRange) output,
+        (
+          facts .1 ∙ handed-table f (u .inRange) output own table (rw (counts .0, counts .1) cells),
+          (
+            facts .2 ∙ handed-spare f (u .inRange) output rest spare (rw (counts .0) count),
+            facts .3 ∙ handed-output f (u .inRange) output,
+          ),
+        ),
+      )

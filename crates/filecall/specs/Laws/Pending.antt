@@ -14,6 +14,8 @@ use Rattle.planning.specs.declared.Mode.{Mode}
 use Rattle.planning.specs.Bounds.{mostEngines, mostDeliveries}
 use Rattle.planfile.specs.FilePlan.{FilePlan, begun}
 use Rattle.planfile.specs.Reading.{Read, refused, accepted, _>>=_, fault, require, readRecords}
+use Rattle.filecall.specs.declared.reading.Added.{Added}
+use Rattle.filecall.specs.declared.reading.Added.the-variants as added
 use Rattle.filecall.specs.declared.reading.Items.{Items}
 use Rattle.filecall.specs.declared.reading.Plan.{Plan}
 use Rattle.filecall.specs.declared.reading.Verdict.the-variants.{Accepted}
@@ -21,7 +23,7 @@ use Rattle.filecall.specs.Items.{Columns, Holding, itemsIn}
 use Rattle.filecall.specs.Laws.Tabulated.{length-tabulated}
 use Rattle.filecall.specs.Laws.PlanRead.{records-refused, records-added}
 use Rattle.filecall.specs.Parts.{tabulated}
-use Rattle.filecall.specs.PlanRead.{planIn, readText, engineColumns, deliveryColumns, ReadBy, requireEngine, refusedItems, ItemsBy, ItemsRead}
+use Rattle.filecall.specs.PlanRead.{planIn, readText, engineColumns, deliveryColumns, AddsRecord, ReadBy, requireEngine, refusedItems, ItemsBy, ItemsRead}
 
 -- what the records from a place on are read as: those from the start are read as those from here, behind the columns so far
 pub record Pending (file : List ℕ) (start engines deliveries : ℕ) (e d : Columns) (from place : ℕ) : Type 0 where
@@ -85,7 +87,7 @@ module _ {file : List ℕ} {start engines deliveries : ℕ} {e d : Columns} {fro
         ∙ records-refused _ place text _ what (h mode minutes allowance place)
 
     -- it adds an engine or a delivery
-    pub pending-added : (engines′ deliveries′ : ℕ) (e′ d′ : Columns) → Holding engines′ mostEngines e′ → Holding deliveries′ mostDeliveries d′
+    pending-added : (engines′ deliveries′ : ℕ) (e′ d′ : Columns) → Holding engines′ mostEngines e′ → Holding deliveries′ mostDeliveries d′
         → ((mode : Mode) (minutes allowance r : ℕ)
         → readText (planIn mode minutes allowance engines deliveries e d) r text ≡ accepted (planIn mode minutes allowance engines′ deliveries′ e′ d′))
         → (next : ℕ) → next ≡ recordSpan file from .next → Pending file start engines′ deliveries′ e′ d′ next (place + 1)
@@ -105,6 +107,23 @@ module _ {file : List ℕ} {start engines deliveries : ℕ} {e d : Columns} {fro
                     ∙ records-added _ place text _ (h mode minutes allowance place),
               );
         }
+
+    -- as the function that adds a record says it, of a text that is this one: over variables, so that a caller rewrites no large goal
+    module _ {engines′ deliveries′ next : ℕ} {e′ d′ : Columns} {own : List ℕ} {how : Added} (same : own ≡ text)
+        (adds : AddsRecord own engines deliveries e d e′ d′ how) where
+      pub pending-engine : how ≡ added.Engine → engines′ ≡ engines + 1 → deliveries′ ≡ deliveries → next ≡ recordSpan file from .next
+          → Pending file start engines′ deliveries′ e′ d′ next (place + 1)
+      unfolding AddsRecord
+      pending-engine is more-engines as-many behind =
+          let engine = rw (is, same) at adds in
+          rw (more-engines, as-many) (pending-added _ _ e′ d′ (engine .1) (engine .2) (engine .0) next behind)
+
+      pub pending-delivery : how ≡ added.Delivery → engines′ ≡ engines → deliveries′ ≡ deliveries + 1 → next ≡ recordSpan file from .next
+          → Pending file start engines′ deliveries′ e′ d′ next (place + 1)
+      unfolding AddsRecord
+      pending-delivery is as-many more-deliveries behind =
+          let delivery = rw (is, same) at adds in
+          rw (as-many, more-deliveries) (pending-added _ _ e′ d′ (delivery .1) (delivery .2) (delivery .0) next behind)
 
 -- ---- 8 after the last record
 
@@ -144,6 +163,13 @@ module _ (file : List ℕ) (start : ℕ) (e′ d′ : Columns) where
         → ItemsRead file start e′ d′ (refusedItems what place)
     items-faulty more what h =
         items-refused what place λ mode minutes allowance n l. engine-faulty _ what place (pending-refused p more what h mode minutes allowance n l)
+
+    -- as the function that adds a record says it
+    pub items-fault : from < length file → {own : List ℕ} {how : Added} {what : Fault} {r : Items}
+        → own ≡ firstRecord (drop from file) .text
+        → AddsRecord own engines deliveries e d e′ d′ how → how ≡ added.Fault what → r ≡ refusedItems what place → ItemsRead file start e′ d′ r
+    unfolding AddsRecord
+    items-fault more same adds is refusal = rw refusal (items-faulty more _ (rw (is, same) at adds))
 
     -- there is no engine
     pub items-missing : length file ≤ from → engines ≡ 0 → ItemsRead file start e′ d′ (refusedItems NoEngine 0)

@@ -17,7 +17,7 @@ slice-aggregate-answer-on : tie.Need-slice-aggregate-answer-on
 slice-aggregate-answer-on c = sym (length-take-le _ _ (cells-fit (c .before .before .before .before .before .pre .0)))
 
 array-borrow-prefix-rest : tie.Need-array-borrow-prefix-rest
-array-borrow-prefix-rest c = search needs
+array-borrow-prefix-rest c = omega arith
 
 slice-aggregate-answer-on-2 : tie.Need-slice-aggregate-answer-on-2
 slice-aggregate-answer-on-2 c = sym (length-take-le _ _ (c .before .before .before .before .before .before .pre .0 .engines .room))
@@ -28,13 +28,13 @@ answer-on-requires c κs =
     (pre .0, length-take-le _ _ (cells-fit (pre .0)), length-take-le _ _ (pre .0 .engines .room), pre .1, pre .2)
 
 same-length : tie.Need-same-length
-same-length c = search needs
+same-length c = c .before .before .before .before .before .table .given
 
 same-length-2 : tie.Need-same-length-2
-same-length-2 c = search needs
+same-length-2 c = c .before .before .before .spare .given
 
 same-length-3 : tie.Need-same-length-3
-same-length-3 c = search needs
+same-length-3 c = c .before .output .given
 
 returns : tie.Need-returns
 returns c = search needs

@@ -1,12 +1,12 @@
 -- `filecall::call::answer_on` meets its contract: what was planned on other tables is handed over. Assumes nothing.
-use mathlib.Core.Path.{_≡_, sym, ap, _∙_}
+use mathlib.Core.Path.{_≡_, ap, _∙_}
 use Prim.Native.Nat.{_*_}
 use native.Mathlib.Omega.{arith}
 use lib.ListN.{length}
 use borrow.Author.Needs.{needs}
 use Rattle.planfile.specs.FileCall.{printed}
 use Rattle.filecall.specs.HandOver.{planBy}
-use Rattle.filecall.specs.Laws.HandOver.{cells-fit, engine-names, delivery-names, plan-counts, print-is, table-length, spare-length, held-short, handed-answer, handed-table, handed-spare, handed-output}
+use Rattle.filecall.specs.Laws.HandOver.{cells-fit, engine-names, delivery-names, print-is, table-length, spare-length, held-short, plan-handed}
 use Rattle.filecall.specs.Parts.{nameList}
 use Rattle.filecall.specs.Printing.{printBytes}
 use Rattle.filecall.proofs.call.answer_on.Statement.{statement}
@@ -16,16 +16,16 @@ planned-requires : tie.Need-planned-requires
 planned-requires c κs = search needs
 
 slice-aggregate-hand-over : tie.Need-slice-aggregate-hand-over
-slice-aggregate-hand-over c = search needs
+slice-aggregate-hand-over c = omega arith
 
 slice-aggregate-hand-over-2 : tie.Need-slice-aggregate-hand-over-2
-slice-aggregate-hand-over-2 c = search needs
+slice-aggregate-hand-over-2 c = omega arith
 
 slice-aggregate-hand-over-3 : tie.Need-slice-aggregate-hand-over-3
-slice-aggregate-hand-over-3 c = search needs
+slice-aggregate-hand-over-3 c = omega arith
 
 slice-aggregate-hand-over-4 : tie.Need-slice-aggregate-hand-over-4
-slice-aggregate-hand-over-4 c = search needs
+slice-aggregate-hand-over-4 c = omega arith
 
 -- the plan's own tables, as they came back
 own-lengths : (c : tie.After-planned) → let plan = c .before .before .before .before .before .before .before .before .args .plan in
@@ -61,39 +61,28 @@ hand-over-requires c κs =
     )
 
 same-length : tie.Need-same-length
-same-length c = search needs
+same-length c = c .before .before .before .before .before .before .before .before .before .before .before .before .before .before .before .before .before .before .before .before .before .before .before .pieces .given
 
 same-length-2 : tie.Need-same-length-2
-same-length-2 c = search needs
+same-length-2 c = c .before .before .before .before .before .before .before .before .before .before .before .before .before .before .before .before .before .before .before .before .before .rest .given
 
 same-length-3 : tie.Need-same-length-3
-same-length-3 c = search needs
+same-length-3 c = c .before .before .before .before .before .table .given
 
 same-length-4 : tie.Need-same-length-4
-same-length-4 c = search needs
+same-length-4 c = c .before .before .before .spare .given
 
 same-length-5 : tie.Need-same-length-5
-same-length-5 c = search needs
+same-length-5 c = c .before .output .given
 
 returns : tie.Need-returns
 returns c =
     let call = c .before .before .before .before .before .before .before .before .before .before .before .before .before .before .before .before .before .before .before .before .before .before .before .before in
     let start = call .before .before .before .before .before .before .before .before in
     let pre = start .pre in
-    let f = planBy (start .args .plan) in
-    let output = start .args .output .now in
-    let counts = plan-counts (pre .0) in
-    let print = print-held call in
-    let over = rw (call .planned .ensures .0, call .planned .ensures .1 .0, call .planned .ensures .1 .1) at (c .before .before .before .before .before .before .hand-over .ensures (printed f) (sym print)) in (
-      over .0 ∙ handed-answer f (pre .0 .inRange) output,
-      (
-        over .1 ∙ handed-table f (pre .0 .inRange) output _ _ (rw (counts .0, counts .1) (pre .1)),
-        (
-          over .2 ∙ handed-spare f (pre .0 .inRange) output _ _ (rw (counts .0) (pre .2)),
-          over .3 ∙ handed-output f (pre .0 .inRange) output,
-        ),
-      ),
-    )
+    let made = call .planned .ensures in
+    plan-handed (pre .0) _ _ (pre .1) (pre .2) (start .args .table .now) (start .args .spare .now) (start .args .output .now)
+    (made .0) (made .1 .0) (made .1 .1) (c .before .before .before .before .before .before .hand-over .ensures)
 
 pub answer-on-spec : {M : Type 1} → statement M
 answer-on-spec =

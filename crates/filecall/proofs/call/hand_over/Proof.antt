@@ -43,7 +43,7 @@ spare-is c =
     (c .match .came)
 
 slice-aggregate-write : tie.Need-slice-aggregate-write
-slice-aggregate-write c = search needs
+slice-aggregate-write c = omega arith
 
 write-requires : tie.Need-write-requires
 write-requires c κs = search needs
@@ -57,16 +57,16 @@ returns c bytes e =
     not-handed (leb (length bytes) (length (start .args .output .now))) (start .args .answer) _ _ _ bytes _ _ _ short
 
 enum-told : tie.Need-enum-told
-enum-told c = search needs
+enum-told c = c .match .keys1
 
 copy-requires : tie.Need-copy-requires
-copy-requires c κs = search needs
+copy-requires c κs = omega arith
 
 copy-requires-2 : tie.Need-copy-requires-2
-copy-requires-2 c κs = search needs
+copy-requires-2 c κs = omega arith
 
 array-share-prefix-made : tie.Need-array-share-prefix-made
-array-share-prefix-made c = search needs
+array-share-prefix-made c = omega arith
 
 slice-aggregate-write-bytes : tie.Need-slice-aggregate-write-bytes
 slice-aggregate-write-bytes c = sym (made-length (c .before .before .before .before))
@@ -81,7 +81,7 @@ same-length-2 : tie.Need-same-length-2
 same-length-2 c = ap length (spare-is (c .before .before .before .before .before)) ∙ numbers-length _ _ _ (c .before .before .before .before .before .before .before .before .before .before .before .before .before .before .before .before .before .before .before .pre .5)
 
 same-length-3 : tie.Need-same-length-3
-same-length-3 c = search needs
+same-length-3 c = c .before .output .given
 
 returns-2 : tie.Need-returns-2
 returns-2 c bytes e =

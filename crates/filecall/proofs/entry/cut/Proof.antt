@@ -6,7 +6,6 @@ use mathlib.Core.Bool.{cond}
 use Prim.Native.Nat.{_+_, _-_}
 use native.Mathlib.Omega.{arith}
 use lib.ListN.{length}
-use borrow.Author.Needs.{needs}
 use Rattle.csv.specs.Laws.FieldReads.{ReadAt}
 use Rattle.filecall.specs.Laws.Cuts.{Passed, none-passed, cut-broken, told, less-left, next-passed, all-passed, none-cut}
 use Rattle.filecall.specs.Laws.Parts.{not-true, not-false}
@@ -23,7 +22,7 @@ loop-holds : tie.Need-loop-holds Inv-loop μ-loop
 loop-holds c = none-passed _ _ _ _ (c .before .pre) refl refl
 
 field-read-requires : tie.Need-field-read-requires Inv-loop μ-loop
-field-read-requires c κs = search needs
+field-read-requires c κs = tt
 
 returns : tie.Need-returns Inv-loop μ-loop
 returns c =

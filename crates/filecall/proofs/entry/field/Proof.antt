@@ -1,23 +1,22 @@
 -- `filecall::entry::field` meets its contract. Assumes nothing.
 use Prim.Native.Nat.{_≤_}
 use native.Mathlib.Omega.{arith}
-use borrow.Author.Needs.{needs}
 use lib.ListN.{length}
 use Rattle.planning.specs.Search.{at}
 use Rattle.filecall.proofs.entry.field.Statement.{statement}
 use Rattle.filecall.proofs.entry.field.Tie as tie
 
 mul-from : tie.Need-mul-from
-mul-from c = search needs
+mul-from c = omega arith
 
 element-copy-out-from : tie.Need-element-copy-out-from
-element-copy-out-from c = search needs
+element-copy-out-from c = omega arith
 
 mul-stop : tie.Need-mul-stop
-mul-stop c = search needs
+mul-stop c = omega arith
 
 element-copy-out-stop : tie.Need-element-copy-out-stop
-element-copy-out-stop c = search needs
+element-copy-out-stop c = omega arith
 
 -- the field stands in the text
 inside : (c : tie.After-stop) → let start = c .before .before in

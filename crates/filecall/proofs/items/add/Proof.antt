@@ -43,7 +43,7 @@ returns c x p q t r next =
     item-full _ _ _ _ _ (names-in start) r x next (omega (arith, names-count (start .args .n) (start .args .names .now) (start .args .sizes .now), c .if1 .taken))
 
 name-of-requires : tie.Need-name-of-requires
-name-of-requires c κs = search needs
+name-of-requires c κs = tt
 
 returns-2 : tie.Need-returns-2
 unfolding Adds
@@ -54,10 +54,10 @@ unused-requires : tie.Need-unused-requires
 unused-requires c κs = search needs
 
 same-length : tie.Need-same-length
-same-length c = search needs
+same-length c = omega arith
 
 same-length-2 : tie.Need-same-length-2
-same-length-2 c = search needs
+same-length-2 c = omega arith
 
 returns-3 : tie.Need-returns-3
 unfolding Adds
@@ -66,19 +66,19 @@ returns-3 c x p q t r next =
     (name-sound (c .before .before .before .before .before .before .before .before .name-of .ensures) p (c .before .before .before .before .before .if2 .left) _ _ (sym (c .before .unused .ensures) ∙ not-true _ (c .if3 .taken)))
 
 field-in-range-requires : tie.Need-field-in-range-requires
-field-in-range-requires c κs = search needs
+field-in-range-requires c κs = omega arith
 
 enum-known-one : tie.Need-enum-known-one
-enum-known-one c = search needs
+enum-known-one c = c .match .keys1
 
 enum-told : tie.Need-enum-told
-enum-told c = search needs
+enum-told c = c .match .keys2
 
 same-length-3 : tie.Need-same-length-3
-same-length-3 c = search needs
+same-length-3 c = omega arith
 
 same-length-4 : tie.Need-same-length-4
-same-length-4 c = search needs
+same-length-4 c = omega arith
 
 returns-4 : tie.Need-returns-4
 unfolding Adds
@@ -87,19 +87,19 @@ returns-4 c x p q t r next =
     item-first _ _ _ _ _ _ r x next (room (sound .before .before .before .before .before .before .before .before .before)) (named sound x p) (sym (c .before .before .field-in-range .ensures _ q) ∙ c .enum-told .given .1)
 
 field-in-range-requires-2 : tie.Need-field-in-range-requires-2
-field-in-range-requires-2 c κs = search needs
+field-in-range-requires-2 c κs = omega arith
 
 enum-known-two : tie.Need-enum-known-two
-enum-known-two c = search needs
+enum-known-two c = c .match2 .keys1
 
 enum-told-2 : tie.Need-enum-told-2
-enum-told-2 c = search needs
+enum-told-2 c = c .match2 .keys2
 
 same-length-5 : tie.Need-same-length-5
-same-length-5 c = search needs
+same-length-5 c = omega arith
 
 same-length-6 : tie.Need-same-length-6
-same-length-6 c = search needs
+same-length-6 c = omega arith
 
 returns-5 : tie.Need-returns-5
 unfolding Adds
@@ -115,7 +115,7 @@ store-requires c κs =
     (omega (arith, start .pre .0 .names, start .pre .0 .room, c .before .before .before .before .before .before .before .before .before .before .before .before .before .before .before .before .before .before .before .if1 .left), c .before .before .before .before .before .before .before .before .before .before .before .before .before .before .before .before .before .before .name-of .ensures .size)
 
 cast-sizes : tie.Need-cast-sizes
-cast-sizes c = search needs
+cast-sizes c = omega arith
 
 slice-write-sizes : tie.Need-slice-write-sizes
 slice-write-sizes c =
@@ -143,7 +143,7 @@ slice-write-seconds c =
     omega (arith, start .pre .0 .seconds, start .pre .0 .room, c .before .before .before .before .before .before .before .before .before .before .before .before .before .before .before .before .before .before .before .before .before .before .if1 .left)
 
 same-length-7 : tie.Need-same-length-7
-same-length-7 c = search needs
+same-length-7 c = c .before .names .given
 
 same-length-8 : tie.Need-same-length-8
 same-length-8 c = search needs

@@ -8,19 +8,18 @@ use mathlib.Core.Option.{Option·some-inj}
 use native.Mathlib.Omega.{arith}
 use types.Run.{miss}
 use lib.ListN.{length, replicate}
-use borrow.Author.Needs.{needs}
 use Rattle.filecall.specs.Laws.Names.{Undoes, undone-value, not-undone, unsound-length, no-name, name-tested}
 use Rattle.filecall.proofs.names.name_of.Statement.{statement}
 use Rattle.filecall.proofs.names.name_of.Tie as tie
 
 slice-aggregate-undo : tie.Need-slice-aggregate-undo
-slice-aggregate-undo c = search needs
+slice-aggregate-undo c = refl
 
 undo-requires : tie.Need-undo-requires
-undo-requires c κs = search needs
+undo-requires c κs = tt
 
 enum-known-undone : tie.Need-enum-known-undone
-enum-known-undone c = search needs
+enum-known-undone c = c .match .keys1
 
 -- the 16 bytes at first, and the value that is undone into them
 abbrev zeros : List ℕ

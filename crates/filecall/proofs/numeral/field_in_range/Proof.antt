@@ -9,7 +9,7 @@ use Rattle.filecall.proofs.numeral.field_in_range.Statement.{statement}
 use Rattle.filecall.proofs.numeral.field_in_range.Tie as tie
 
 part-of-requires : tie.Need-part-of-requires
-part-of-requires c κs = search needs
+part-of-requires c κs = tt
 
 in-range-requires : tie.Need-in-range-requires
 in-range-requires c κs = search needs

@@ -4,7 +4,6 @@ use mathlib.Core.Logic.{⊎-elim, inl, inr}
 use Prim.Native.Nat.{_≤_}
 use native.Mathlib.Omega.{arith}
 use lib.ListN.{length, getD}
-use borrow.Author.Needs.{needs}
 use borrow.Author.Tests.{ltb-true, ltb-false}
 use Rattle.planfile.specs.Numerals.{digitZero}
 use Rattle.filecall.specs.Laws.Parts.{ranged-empty, ranged-leading-zero, ranged-inside, ranged-outside}
@@ -15,13 +14,13 @@ returns : tie.Need-returns
 returns c = sym (ranged-empty _ _ _ (c .if1 .taken))
 
 shared-slice-read-if2 : tie.Need-shared-slice-read-if2
-shared-slice-read-if2 c = search needs
+shared-slice-read-if2 c = omega arith
 
 returns-2 : tie.Need-returns-2
 returns-2 c = sym (ranged-leading-zero _ _ _ (c .before .if2 .taken) (c .if3 .taken))
 
 capped-value-requires : tie.Need-capped-value-requires
-capped-value-requires c κs = search needs
+capped-value-requires c κs = omega arith
 
 -- past the first two returns a zero stands alone
 no-leading-zero : (c : tie.After-capped-value) → getD (c .before .before .before .before .before .args .text .now) 0 0 ≡ digitZero

@@ -1,6 +1,5 @@
 -- `filecall::opening::mode_of` meets its contract. Assumes nothing.
 use mathlib.Core.Path.{refl, sym, _∙_}
-use borrow.Author.Needs.{needs}
 use Rattle.csv.specs.Spans.{holdsQuote}
 use Rattle.csv.specs.Text.{ascii}
 use Rattle.filecall.specs.Laws.Opening.{mode-fixed, mode-shortest, mode-neither}
@@ -9,7 +8,7 @@ use Rattle.filecall.proofs.opening.mode_of.Statement.{statement}
 use Rattle.filecall.proofs.opening.mode_of.Tie as tie
 
 slice-aggregate-is-word : tie.Need-slice-aggregate-is-word
-slice-aggregate-is-word c = search needs
+slice-aggregate-is-word c = refl
 
 is-word-requires : tie.Need-is-word-requires
 unfolding holdsQuote
@@ -20,7 +19,7 @@ unfolding modeRead ascii
 returns c value e = mode-fixed value (sym (c .if1 .taken) ∙ c .before .is-word .ensures value e)
 
 slice-aggregate-is-word-2 : tie.Need-slice-aggregate-is-word-2
-slice-aggregate-is-word-2 c = search needs
+slice-aggregate-is-word-2 c = refl
 
 is-word-requires-2 : tie.Need-is-word-requires-2
 unfolding holdsQuote

@@ -52,7 +52,7 @@ field-requires : tie.Need-field-requires
 field-requires c κs = search needs
 
 slice-aggregate-is-word : tie.Need-slice-aggregate-is-word
-slice-aggregate-is-word c = search needs
+slice-aggregate-is-word c = refl
 
 is-word-requires : tie.Need-is-word-requires
 unfolding holdsQuote
@@ -68,13 +68,13 @@ field-requires-2 : tie.Need-field-requires-2
 field-requires-2 c κs = search needs
 
 mode-of-requires : tie.Need-mode-of-requires
-mode-of-requires c κs = search needs
+mode-of-requires c κs = tt
 
 enum-known-word : tie.Need-enum-known-word
-enum-known-word c = search needs
+enum-known-word c = c .match .keys1
 
 enum-told : tie.Need-enum-told
-enum-told c = search needs
+enum-told c = c .match .keys2
 
 returns-3 : tie.Need-returns-3
 unfolding openingRead
@@ -90,10 +90,10 @@ field-in-range-requires : tie.Need-field-in-range-requires
 field-in-range-requires c κs = search needs
 
 enum-known-third : tie.Need-enum-known-third
-enum-known-third c = search needs
+enum-known-third c = c .match2 .keys1
 
 enum-told-2 : tie.Need-enum-told-2
-enum-told-2 c = search needs
+enum-told-2 c = c .match2 .keys2
 
 returns-4 : tie.Need-returns-4
 unfolding openingRead
@@ -112,10 +112,10 @@ field-in-range-requires-2 : tie.Need-field-in-range-requires-2
 field-in-range-requires-2 c κs = search needs
 
 enum-known-fourth : tie.Need-enum-known-fourth
-enum-known-fourth c = search needs
+enum-known-fourth c = c .match3 .keys1
 
 enum-told-3 : tie.Need-enum-told-3
-enum-told-3 c = search needs
+enum-told-3 c = c .match3 .keys2
 
 returns-5 : tie.Need-returns-5
 unfolding openingRead

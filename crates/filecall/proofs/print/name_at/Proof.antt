@@ -3,30 +3,29 @@ use mathlib.Core.Path.{_≡_}
 use Prim.Native.Nat.{_+_, _*_, _-_}
 use native.Mathlib.Omega.{arith}
 use lib.ListN.{getD}
-use borrow.Author.Needs.{needs}
 use Rattle.filecall.proofs.print.name_at.Statement.{statement}
 use Rattle.filecall.proofs.print.name_at.Tie as tie
 
 mul-from : tie.Need-mul-from
-mul-from c = search needs
+mul-from c = omega arith
 
 shared-slice-read-end : tie.Need-shared-slice-read-end
-shared-slice-read-end c = search needs
+shared-slice-read-end c = omega arith
 
 cast-end : tie.Need-cast-end
-cast-end c = search needs
+cast-end c = omega arith
 
 add-end : tie.Need-add-end
-add-end c = search needs
+add-end c = omega arith
 
 sub-result : tie.Need-sub-result
-sub-result c = search needs
+sub-result c = omega arith
 
 part-result-start : tie.Need-part-result-start
-part-result-start c = search needs
+part-result-start c = omega arith
 
 part-result-end : tie.Need-part-result-end
-part-result-end c = search needs
+part-result-end c = omega arith
 
 returns : tie.Need-returns
 returns c =

@@ -5,7 +5,6 @@ use Prim.Native.Nat.{ℕ, _+_, _≤_}
 use native.Mathlib.Omega.{arith}
 use denote.Ref.{now}
 use lib.ListN.{length}
-use borrow.Author.Needs.{needs}
 use Rattle.csv.specs.Text.{ascii}
 use Rattle.csv.specs.Writer.{writable, writtenLine, writtenFile}
 use Rattle.planning.specs.declared.Outcome.{Outcome}
@@ -66,13 +65,13 @@ counted c =
     c .count-pieces .ensures ∙ sym (table-lines (deliveries-of start) (engines-of start) (now (start .args .pieces)) (rw (deliveries, engines) (start .pre .2)))
 
 enum-told : tie.Need-enum-told
-enum-told c = search needs
+enum-told c = c .match .keys1
 
 slice-aggregate-write-answer : tie.Need-slice-aggregate-write-answer
-slice-aggregate-write-answer c = search needs
+slice-aggregate-write-answer c = refl
 
 count-pieces-requires : tie.Need-count-pieces-requires
-count-pieces-requires c κs = search needs
+count-pieces-requires c κs = tt
 
 write-answer-requires : tie.Need-write-answer-requires
 unfolding ascii wordOf writable
@@ -95,10 +94,10 @@ write-rows-requires c κs =
     (pre .0, pre .1, pre .2, room-for-last (rows-left line))
 
 enum-told-2 : tie.Need-enum-told-2
-enum-told-2 c = search needs
+enum-told-2 c = c .match .keys2
 
 slice-aggregate-write-answer-2 : tie.Need-slice-aggregate-write-answer-2
-slice-aggregate-write-answer-2 c = search needs
+slice-aggregate-write-answer-2 c = refl
 
 write-answer-requires-2 : tie.Need-write-answer-requires-2
 unfolding ascii wordOf writable linesBehind
@@ -107,10 +106,10 @@ write-answer-requires-2 c κs =
     (refl, room (start-of (told .before .before)) None (told .enum-told2 .given .1) 0 refl)
 
 enum-told-3 : tie.Need-enum-told-3
-enum-told-3 c = search needs
+enum-told-3 c = c .match .keys3
 
 slice-aggregate-write-answer-3 : tie.Need-slice-aggregate-write-answer-3
-slice-aggregate-write-answer-3 c = search needs
+slice-aggregate-write-answer-3 c = refl
 
 write-answer-requires-3 : tie.Need-write-answer-requires-3
 unfolding ascii wordOf writable linesBehind
@@ -119,7 +118,7 @@ write-answer-requires-3 c κs =
     (refl, room (start-of (told .before .before)) Stopped (told .enum-told3 .given .1) 0 refl)
 
 same-length : tie.Need-same-length
-same-length c = search needs
+same-length c = omega arith
 
 returns : tie.Need-returns
 returns c =
@@ -127,7 +126,7 @@ returns c =
     at-front (then-last (rows-left (rows .before .before .before .before)) (rows .write-rows .ensures))
 
 same-length-2 : tie.Need-same-length-2
-same-length-2 c = search needs
+same-length-2 c = omega arith
 
 returns-2 : tie.Need-returns-2
 unfolding ascii wordOf linesBehind writtenFile
@@ -137,7 +136,7 @@ returns-2 c =
     at-front (all-put (behind-line (start-of (told .before .before)) None (told .enum-told2 .given .1) 0 refl (call .write-answer2 .ensures)))
 
 same-length-3 : tie.Need-same-length-3
-same-length-3 c = search needs
+same-length-3 c = omega arith
 
 returns-3 : tie.Need-returns-3
 unfolding ascii wordOf linesBehind writtenFile

@@ -55,7 +55,7 @@ write-text-requires c κs =
     (start .pre .0, room-for (at-first start) (withComma (written (now (start .args .word)))) _ (parts _ _ _ _))
 
 slice-aggregate-write-number : tie.Need-slice-aggregate-write-number
-slice-aggregate-write-number c = search needs
+slice-aggregate-write-number c = refl
 
 write-number-requires : tie.Need-write-number-requires
 write-number-requires c κs =
@@ -63,7 +63,7 @@ write-number-requires c κs =
     room-for (behind-word word) (withComma (decimal (start-of word .args .minutes))) _ refl
 
 slice-aggregate-write-number-2 : tie.Need-slice-aggregate-write-number-2
-slice-aggregate-write-number-2 c = search needs
+slice-aggregate-write-number-2 c = refl
 
 write-number-requires-2 : tie.Need-write-number-requires-2
 write-number-requires-2 c κs =
@@ -72,7 +72,7 @@ write-number-requires-2 c κs =
     room-for (behind-minutes minutes) (withComma (decimal (start .args .tries))) _ refl
 
 slice-aggregate-write-number-3 : tie.Need-slice-aggregate-write-number-3
-slice-aggregate-write-number-3 c = search needs
+slice-aggregate-write-number-3 c = refl
 
 write-number-requires-3 : tie.Need-write-number-requires-3
 write-number-requires-3 c κs = room-for-last (behind-tries (c .before .before .before .before))

@@ -42,7 +42,7 @@ behind-engine c =
     then (behind-delivery (c .before .before .before .before)) (withComma (written (now (args .engine)))) _ refl (c .write-text3 .ensures)
 
 slice-aggregate-write-text : tie.Need-slice-aggregate-write-text
-slice-aggregate-write-text c = search needs
+slice-aggregate-write-text c = refl
 
 write-text-requires : tie.Need-write-text-requires
 unfolding ascii writable
@@ -62,7 +62,7 @@ write-text-requires-3 c κs =
     (start .pre .1, room-for (behind-delivery delivery) (withComma (written (now (start .args .engine)))) _ refl)
 
 slice-aggregate-write-number : tie.Need-slice-aggregate-write-number
-slice-aggregate-write-number c = search needs
+slice-aggregate-write-number c = refl
 
 write-number-requires : tie.Need-write-number-requires
 write-number-requires c κs = room-for-last (behind-engine (c .before .before .before .before))

@@ -3,7 +3,6 @@ use mathlib.Core.Path.{refl, ap, _∙_}
 use native.Mathlib.Nat.{zero-add}
 use native.Mathlib.Omega.{arith}
 use lib.ListN.{length}
-use borrow.Author.Needs.{needs}
 use Rattle.csv.specs.Text.{ascii}
 use Rattle.csv.specs.Writer.{writable}
 use Rattle.planfile.specs.Laws.Decimals.{decimal-length}
@@ -13,7 +12,7 @@ use Rattle.filecall.proofs.print.write_refusal.Statement.{statement}
 use Rattle.filecall.proofs.print.write_refusal.Tie as tie
 
 length-of-requires : tie.Need-length-of-requires
-length-of-requires c κs = search needs
+length-of-requires c κs = tt
 
 add-if1 : tie.Need-add-if1
 add-if1 c = omega (arith, c .length-of .ensures, decimal-length (c .before .before .args .refusal .place) 20 (omega arith) (omega arith))
@@ -22,10 +21,10 @@ returns : tie.Need-returns
 returns c = refusal-long (c .before .before .before .args .refusal) _ (omega (arith, c .if1 .taken, c .before .length-of .ensures))
 
 slice-aggregate-write-answer : tie.Need-slice-aggregate-write-answer
-slice-aggregate-write-answer c = search needs
+slice-aggregate-write-answer c = refl
 
 number-of-requires : tie.Need-number-of-requires
-number-of-requires c κs = search needs
+number-of-requires c κs = tt
 
 write-answer-requires : tie.Need-write-answer-requires
 unfolding ascii writable
@@ -34,7 +33,7 @@ write-answer-requires c κs =
     (refl, rw (c .before .number-of .ensures) (omega (arith, c .before .before .before .if1 .left, c .before .before .before .before .length-of .ensures, refusal-length refusal, ap length (refusal-line refusal))))
 
 same-length : tie.Need-same-length
-same-length c = search needs
+same-length c = c .before .out .given
 
 returns-2 : tie.Need-returns-2
 unfolding ascii

@@ -23,13 +23,13 @@ room : (c : tie.Start) → c .args .at + length (written (now (c .args .text))) 
 room c = room-for (at-first c) (written (now (c .args .text))) (comma ∷ []) refl
 
 write-field-requires : tie.Need-write-field-requires
-write-field-requires c κs = search needs
+write-field-requires c κs = tt
 
 enum-known-wrote : tie.Need-enum-known-wrote
-enum-known-wrote c = search needs
+enum-known-wrote c = c .match .keys1
 
 slice-aggregate-write-bytes : tie.Need-slice-aggregate-write-bytes
-slice-aggregate-write-bytes c = search needs
+slice-aggregate-write-bytes c = refl
 
 -- what is left behind the text
 behind-text : (c : tie.After-wrote) → let call = c .before .before .before .before in let args = call .before .before .before .before .args in
@@ -50,7 +50,7 @@ returns : tie.Need-returns
 returns c = then-last (behind-text (c .before .before .before .before .before .before)) (c .before .before .write-bytes .ensures)
 
 same-length-2 : tie.Need-same-length-2
-same-length-2 c = search needs
+same-length-2 c = c .before .before .out .given
 
 returns-2 : tie.Need-returns-2
 returns-2 c =

@@ -105,7 +105,7 @@ field-requires-4 : tie.Need-field-requires-4
 field-requires-4 c κs = search needs
 
 slice-aggregate-is-word : tie.Need-slice-aggregate-is-word
-slice-aggregate-is-word c = search needs
+slice-aggregate-is-word c = refl
 
 is-word-requires : tie.Need-is-word-requires
 unfolding holdsQuote
@@ -115,22 +115,22 @@ add-requires : tie.Need-add-requires
 add-requires c κs = (c .before .before .before .before .before .before .before .before .before .before .before .before .before .before .before .before .before .before .before .before .before .before .pre .1, omega arith, omega arith)
 
 enum-told : tie.Need-enum-told
-enum-told c = search needs
+enum-told c = c .match .keys1
 
 enum-known-verdict : tie.Need-enum-known-verdict
-enum-known-verdict c = search needs
+enum-known-verdict c = c .match .keys2
 
 same-length : tie.Need-same-length
-same-length c = search needs
+same-length c = c .before .before .before .before .before .before .before .before .before .engine-names .given
 
 same-length-2 : tie.Need-same-length-2
-same-length-2 c = search needs
+same-length-2 c = c .before .before .before .before .before .before .before .engine-sizes .given
 
 same-length-3 : tie.Need-same-length-3
-same-length-3 c = search needs
+same-length-3 c = c .before .before .before .before .before .watts .given
 
 same-length-4 : tie.Need-same-length-4
-same-length-4 c = search needs
+same-length-4 c = c .before .before .before .fuels .given
 
 returns-2 : tie.Need-returns-2
 returns-2 c =
@@ -140,16 +140,16 @@ returns-2 c =
     (delivery-columns start) (engine-kind call) (rw (c .enum-told .given .1) at (engine-adds call)) (start .pre .2)
 
 same-length-5 : tie.Need-same-length-5
-same-length-5 c = search needs
+same-length-5 c = c .before .before .before .before .before .before .before .before .before .before .engine-names .given
 
 same-length-6 : tie.Need-same-length-6
-same-length-6 c = search needs
+same-length-6 c = c .before .before .before .before .before .before .before .before .engine-sizes .given
 
 same-length-7 : tie.Need-same-length-7
-same-length-7 c = search needs
+same-length-7 c = c .before .before .before .before .before .before .watts .given
 
 same-length-8 : tie.Need-same-length-8
-same-length-8 c = search needs
+same-length-8 c = c .before .before .before .before .fuels .given
 
 returns-3 : tie.Need-returns-3
 returns-3 c =
@@ -159,7 +159,7 @@ returns-3 c =
     (delivery-columns start) (engine-kind call) _ (rw (c .before .verdict .given .1) at (engine-adds call))
 
 slice-aggregate-is-word-2 : tie.Need-slice-aggregate-is-word-2
-slice-aggregate-is-word-2 c = search needs
+slice-aggregate-is-word-2 c = refl
 
 is-word-requires-2 : tie.Need-is-word-requires-2
 unfolding holdsQuote
@@ -169,22 +169,22 @@ add-requires-2 : tie.Need-add-requires-2
 add-requires-2 c κs = (c .before .before .before .before .before .before .before .before .before .before .before .before .before .before .before .before .before .before .before .before .before .before .before .before .before .pre .2, omega arith, omega arith)
 
 enum-told-2 : tie.Need-enum-told-2
-enum-told-2 c = search needs
+enum-told-2 c = c .match2 .keys1
 
 enum-known-verdict-2 : tie.Need-enum-known-verdict-2
-enum-known-verdict-2 c = search needs
+enum-known-verdict-2 c = c .match2 .keys2
 
 same-length-9 : tie.Need-same-length-9
-same-length-9 c = search needs
+same-length-9 c = c .before .before .before .before .before .before .before .before .before .delivery-names .given
 
 same-length-10 : tie.Need-same-length-10
-same-length-10 c = search needs
+same-length-10 c = c .before .before .before .before .before .before .before .delivery-sizes .given
 
 same-length-11 : tie.Need-same-length-11
-same-length-11 c = search needs
+same-length-11 c = c .before .before .before .before .before .energies .given
 
 same-length-12 : tie.Need-same-length-12
-same-length-12 c = search needs
+same-length-12 c = c .before .before .before .limits .given
 
 returns-4 : tie.Need-returns-4
 returns-4 c =
@@ -194,16 +194,16 @@ returns-4 c =
     (deliveries-after call) (other-kind call) (delivery-kind call) (rw (c .enum-told2 .given .1) at (delivery-adds call)) (start .pre .1)
 
 same-length-13 : tie.Need-same-length-13
-same-length-13 c = search needs
+same-length-13 c = c .before .before .before .before .before .before .before .before .before .before .delivery-names .given
 
 same-length-14 : tie.Need-same-length-14
-same-length-14 c = search needs
+same-length-14 c = c .before .before .before .before .before .before .before .before .delivery-sizes .given
 
 same-length-15 : tie.Need-same-length-15
-same-length-15 c = search needs
+same-length-15 c = c .before .before .before .before .before .before .energies .given
 
 same-length-16 : tie.Need-same-length-16
-same-length-16 c = search needs
+same-length-16 c = c .before .before .before .before .limits .given
 
 returns-5 : tie.Need-returns-5
 returns-5 c =

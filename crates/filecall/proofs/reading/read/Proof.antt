@@ -6,7 +6,6 @@ use native.Mathlib.Nat.{sub-zero}
 use native.Mathlib.Omega.{arith}
 use lib.ListN.{length, take, length-drop}
 use lib.Seq.{length-take-le}
-use borrow.Author.Needs.{needs}
 use borrow.Author.Tests.{ltb-true, ltb-false}
 use Rattle.csv.specs.Records.{firstRecord}
 use Rattle.filecall.specs.Laws.Cuts.{text-stands}
@@ -35,7 +34,7 @@ opening : (c : tie.After-read) → openingRead (c .read .result) ≡ readOpening
 opening c = c .read .ensures ∙ ap readOpening (rw sub-zero at (stands (c .before .before) .2))
 
 refused-requires : tie.Need-refused-requires
-refused-requires c κs = search needs
+refused-requires c κs = tt
 
 returns : tie.Need-returns
 returns c =
@@ -46,7 +45,7 @@ cut-requires : tie.Need-cut-requires
 cut-requires c κs = omega arith
 
 refused-requires-2 : tie.Need-refused-requires-2
-refused-requires-2 c κs = search needs
+refused-requires-2 c κs = tt
 
 -- it breaks the grammar
 returns-2 : tie.Need-returns-2
@@ -65,13 +64,13 @@ read-requires c κs =
     rw (rw sub-zero at (stands past .2)) (past .before .before .cut .ensures .cut (not-false _ (past .if3 .left)))
 
 enum-known-opening : tie.Need-enum-known-opening
-enum-known-opening c = search needs
+enum-known-opening c = c .match .keys1
 
 refused-requires-3 : tie.Need-refused-requires-3
-refused-requires-3 c κs = search needs
+refused-requires-3 c κs = tt
 
 enum-known-opening-2 : tie.Need-enum-known-opening-2
-enum-known-opening-2 c = search needs
+enum-known-opening-2 c = c .match .keys2
 
 read-items-requires : tie.Need-read-items-requires
 read-items-requires c κs = most (c .before .before .before .before .before .before .before .before)
