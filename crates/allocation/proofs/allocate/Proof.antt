@@ -12,13 +12,13 @@ use Rattle.allocation.proofs.allocate.Statement.{statement}
 use Rattle.allocation.proofs.allocate.Tie as tie
 
 refusal-requires : tie.Need-refusal-requires
-refusal-requires c κs = search needs
+refusal-requires c κs = tt
 
 enum-known-verdict : tie.Need-enum-known-verdict
-enum-known-verdict c = search needs
+enum-known-verdict c = c .match .keys1
 
 enum-told : tie.Need-enum-told
-enum-told c = search needs
+enum-told c = c .match .keys2
 
 plan-requires : tie.Need-plan-requires
 unfolding planOf
@@ -31,7 +31,7 @@ plan-requires c κs =
     (accepted-usable _ ok, ok .inRange .minutes .most, ok .inRange .allowance .most, ok .table)
 
 enum-told-2 : tie.Need-enum-told-2
-enum-told-2 c = search needs
+enum-told-2 c = c .match2 .keys1
 
 write-requires : tie.Need-write-requires
 unfolding planOf
@@ -61,10 +61,10 @@ returns c =
     every-promise _ (sym (kept .0)) (sym (kept .1)) (sym (kept .2))
 
 same-length : tie.Need-same-length
-same-length c = search needs
+same-length c = c .before .before .before .before .before .before .before .before .table .given
 
 same-length-2 : tie.Need-same-length-2
-same-length-2 c = search needs
+same-length-2 c = c .before .spare .given
 
 returns-2 : tie.Need-returns-2
 unfolding planOf
@@ -83,7 +83,7 @@ returns-2 c =
     (answered-spare _ ok (planned .plan .ensures .0) (planned .plan .ensures .1) (finds .enum-told2 .given .1) (wrote .write .ensures))
 
 same-length-3 : tie.Need-same-length-3
-same-length-3 c = search needs
+same-length-3 c = c .before .before .table .given
 
 returns-3 : tie.Need-returns-3
 unfolding planOf

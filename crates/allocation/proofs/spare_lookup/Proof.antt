@@ -1,23 +1,22 @@
 -- `allocation::spare_lookup` meets its contract: a refusal is the definition's, and where there is none `find` names an engine.
 -- Assumes nothing.
 use mathlib.Core.Path.{refl, sym, _∙_}
-use borrow.Author.Needs.{needs}
 use Rattle.planning.specs.SpareLookup.{Permitted, PermittedBy}
 use Rattle.allocation.specs.Laws.Checks.{accepted-by, refused-by}
 use Rattle.allocation.proofs.spare_lookup.Statement.{statement}
 use Rattle.allocation.proofs.spare_lookup.Tie as tie
 
 lookup-refusal-requires : tie.Need-lookup-refusal-requires
-lookup-refusal-requires c κs = search needs
+lookup-refusal-requires c κs = tt
 
 enum-known-verdict : tie.Need-enum-known-verdict
-enum-known-verdict c = search needs
+enum-known-verdict c = c .match .keys1
 
 enum-told : tie.Need-enum-told
-enum-told c = search needs
+enum-told c = c .match .keys2
 
 find-requires : tie.Need-find-requires
-find-requires c κs = search needs
+find-requires c κs = tt
 
 returns : tie.Need-returns
 unfolding Permitted PermittedBy

@@ -5,7 +5,6 @@ use mathlib.Core.List.{[]}
 use Prim.Native.Nat.{_-_, _≤_, _<_}
 use lib.ListN.{length, replicate}
 use native.Mathlib.Omega.{arith}
-use borrow.Author.Needs.{needs}
 use Rattle.planning.specs.declared.Mode.the-variants.{Fixed}
 use Rattle.planning.specs.Capacity.{capacities as capacitiesOf}
 use Rattle.allocation.specs.Laws.Front.{front, front-none, front-more, front-zeros}
@@ -25,16 +24,16 @@ loop-holds : tie.Need-loop-holds Inv-loop μ-loop
 loop-holds c = (omega arith, front-none _ _)
 
 mul-capacity : tie.Need-mul-capacity Inv-loop μ-loop
-mul-capacity c = search needs
+mul-capacity c = omega arith
 
 shared-slice-read-capacity : tie.Need-shared-slice-read-capacity Inv-loop μ-loop
-shared-slice-read-capacity c = search needs
+shared-slice-read-capacity c = omega arith
 
 mul-capacity-2 : tie.Need-mul-capacity-2 Inv-loop μ-loop
-mul-capacity-2 c = search needs
+mul-capacity-2 c = omega arith
 
 shared-slice-read-capacity-2 : tie.Need-shared-slice-read-capacity-2 Inv-loop μ-loop
-shared-slice-read-capacity-2 c = search needs
+shared-slice-read-capacity-2 c = omega arith
 
 capacity-requires : tie.Need-capacity-requires Inv-loop μ-loop
 capacity-requires c κs =
@@ -44,16 +43,16 @@ capacity-requires c κs =
     (engine .watts .most, engine .fuel .most, known .1)
 
 mul-out : tie.Need-mul-out Inv-loop μ-loop
-mul-out c = search needs
+mul-out c = omega arith
 
 array-write-out : tie.Need-array-write-out Inv-loop μ-loop
-array-write-out c = search needs
+array-write-out c = omega arith
 
 add-i : tie.Need-add-i Inv-loop μ-loop
-add-i c = search needs
+add-i c = omega arith
 
 loop-less : tie.Need-loop-less Inv-loop μ-loop
-loop-less c = search needs
+loop-less c = omega arith
 
 loop-again : tie.Need-loop-again Inv-loop μ-loop
 loop-again c =

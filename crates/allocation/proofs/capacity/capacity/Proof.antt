@@ -2,7 +2,6 @@
 -- Assumes nothing.
 use native.Mathlib.Nat.{mul-le-mul-right}
 use native.Mathlib.Omega.{arith}
-use borrow.Author.Needs.{needs}
 use Rattle.planning.specs.Capacity.{capacity as capacityOf}
 use Rattle.allocation.proofs.capacity.capacity.Statement.{statement}
 use Rattle.allocation.proofs.capacity.capacity.Tie as tie
@@ -11,10 +10,10 @@ mul-power : tie.Need-mul-power
 mul-power c = omega (arith, mul-le-mul-right (c .args .minutes) (c .pre .0))
 
 cast-result : tie.Need-cast-result
-cast-result c = search needs
+cast-result c = omega arith
 
 cast-result-2 : tie.Need-cast-result-2
-cast-result-2 c = search needs
+cast-result-2 c = omega arith
 
 returns : tie.Need-returns
 unfolding capacityOf

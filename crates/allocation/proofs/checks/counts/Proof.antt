@@ -4,7 +4,6 @@ use mathlib.Core.Path.{_∙_}
 use Prim.Native.Nat.{_*_}
 use native.Mathlib.Nat.{mul-le-mul-right}
 use native.Mathlib.Omega.{arith}
-use borrow.Author.Needs.{needs}
 use borrow.Author.Tests.{le-leb, lt-leb, eq-eqb, ne-eqb}
 use Rattle.planning.specs.Refusals.{check, _then_}
 use Rattle.allocation.specs.Checks.{countsRefusal}
@@ -13,14 +12,14 @@ use Rattle.allocation.proofs.checks.counts.Statement.{statement}
 use Rattle.allocation.proofs.checks.counts.Tie as tie
 
 fault-requires : tie.Need-fault-requires
-fault-requires c κs = search needs
+fault-requires c κs = tt
 
 returns : tie.Need-returns
 unfolding countsRefusal check _then_ verdictOf
 returns c = let a = c .before .before .args in c .fault .ensures ∙ rw (lt-leb 1 (a .engines) (omega arith))
 
 fault-requires-2 : tie.Need-fault-requires-2
-fault-requires-2 c κs = search needs
+fault-requires-2 c κs = tt
 
 returns-2 : tie.Need-returns-2
 unfolding countsRefusal check _then_ verdictOf
@@ -29,7 +28,7 @@ returns-2 c =
     c .fault2 .ensures ∙ rw (le-leb 1 (a .engines) (omega arith), lt-leb (a .engines) 12 (omega arith))
 
 fault-requires-3 : tie.Need-fault-requires-3
-fault-requires-3 c κs = search needs
+fault-requires-3 c κs = tt
 
 returns-3 : tie.Need-returns-3
 unfolding countsRefusal check _then_ verdictOf
@@ -46,7 +45,7 @@ mul-if4 : tie.Need-mul-if4
 mul-if4 c = let a = c .before .before .before .args in omega (arith, mul-le-mul-right (a .engines) (c .if3 .left))
 
 fault-requires-4 : tie.Need-fault-requires-4
-fault-requires-4 c κs = search needs
+fault-requires-4 c κs = tt
 
 returns-4 : tie.Need-returns-4
 unfolding countsRefusal check _then_ verdictOf
@@ -61,7 +60,7 @@ returns-4 c =
     )
 
 fault-requires-5 : tie.Need-fault-requires-5
-fault-requires-5 c κs = search needs
+fault-requires-5 c κs = tt
 
 returns-5 : tie.Need-returns-5
 unfolding countsRefusal check _then_ verdictOf

@@ -5,7 +5,6 @@ use mathlib.Core.Logic.{_⊎_, inl, inr, ⊎-elim}
 use Prim.Native.Nat.{_<_}
 use lib.ListN.{length}
 use native.Mathlib.Omega.{arith}
-use borrow.Author.Needs.{needs}
 use borrow.Author.Tests.{le-leb, lt-leb, ltb-true, ltb-false}
 use Rattle.planning.specs.Refusals.{check, _then_}
 use Rattle.planning.specs.SpareLookup.{lookupRefusal}
@@ -15,21 +14,21 @@ use Rattle.allocation.proofs.checks.lookup_refusal.Statement.{statement
 use Rattle.allocation.proofs.checks.lookup_refusal.Tie as tie
 
 fault-requires : tie.Need-fault-requires
-fault-requires c κs = search needs
+fault-requires c κs = tt
 
 returns : tie.Need-returns
 unfolding lookupRefusal check _then_ verdictOf
 returns c = λ spare e. c .fault .ensures ∙ rw (lt-leb 1 (length spare) (omega arith))
 
 fault-requires-2 : tie.Need-fault-requires-2
-fault-requires-2 c κs = search needs
+fault-requires-2 c κs = tt
 
 returns-2 : tie.Need-returns-2
 unfolding lookupRefusal check _then_ verdictOf
 returns-2 c = λ spare e. c .fault2 .ensures ∙ rw (le-leb 1 (length spare) (omega arith), lt-leb (length spare) 12 (omega arith))
 
 fault-requires-3 : tie.Need-fault-requires-3
-fault-requires-3 c κs = search needs
+fault-requires-3 c κs = tt
 
 returns-3 : tie.Need-returns-3
 unfolding lookupRefusal check _then_ verdictOf

@@ -6,7 +6,6 @@ use Prim.Native.Nat.{_+_, _-_, _≤_}
 use lib.ListN.{length, drop}
 use native.Mathlib.Nat.{add-zero}
 use native.Mathlib.Omega.{arith}
-use borrow.Author.Needs.{needs}
 use borrow.Author.Tests.{ltb-true, ltb-false}
 use Rattle.allocation.specs.Checks.{pairsRefusal}
 use Rattle.allocation.specs.Laws.Checks.{pair-inside, pair-outside, pairs-pass, pairs-fail, pairs-end}
@@ -27,22 +26,22 @@ loop-holds : tie.Need-loop-holds Inv-loop μ-loop
 loop-holds c = (omega arith, rw add-zero)
 
 mul-a : tie.Need-mul-a Inv-loop μ-loop
-mul-a c = search needs
+mul-a c = omega arith
 
 shared-slice-read-a : tie.Need-shared-slice-read-a Inv-loop μ-loop
-shared-slice-read-a c = search needs
+shared-slice-read-a c = omega arith
 
 mul-b : tie.Need-mul-b Inv-loop μ-loop
-mul-b c = search needs
+mul-b c = omega arith
 
 shared-slice-read-b : tie.Need-shared-slice-read-b Inv-loop μ-loop
-shared-slice-read-b c = search needs
+shared-slice-read-b c = omega arith
 
 add-fault : tie.Need-add-fault Inv-loop μ-loop
-add-fault c = search needs
+add-fault c = omega arith
 
 fault-requires : tie.Need-fault-requires Inv-loop μ-loop
-fault-requires c κs = search needs
+fault-requires c κs = tt
 
 returns : tie.Need-returns Inv-loop μ-loop
 returns c =
@@ -58,10 +57,10 @@ returns c =
     ∙ ap verdictOf (sym (here .inv .1 ∙ pairs-fail _ _ _ _ _ _ _ (here .i) (omega arith) (omega arith) (pair-outside _ _ _ _ _ _ wrong)))
 
 add-i : tie.Need-add-i Inv-loop μ-loop
-add-i c = search needs
+add-i c = omega arith
 
 loop-less : tie.Need-loop-less Inv-loop μ-loop
-loop-less c = search needs
+loop-less c = omega arith
 
 loop-again : tie.Need-loop-again Inv-loop μ-loop
 loop-again c =

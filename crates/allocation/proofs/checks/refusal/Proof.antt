@@ -4,7 +4,6 @@ use mathlib.Core.Path.{_≡_, sym, ap, _∙_}
 use mathlib.Core.Option.{Option}
 use lib.Dec.{eqb}
 use lib.ListN.{length}
-use borrow.Author.Needs.{needs}
 use borrow.Author.Tests.{eq-eqb, ne-eqb}
 use Rattle.planning.specs.declared.Fault.the-variants.{Fields}
 use Rattle.planning.specs.declared.Refusal.{Refusal}
@@ -26,14 +25,14 @@ paired : (c : tie.Else2) (later : Option Refusal)
 paired c later = passes _ _ _ _ (eq-eqb _ _ (c .before .if1 .left)) ∙ passes _ _ _ _ (eq-eqb _ _ (c .if2 .left))
 
 fault-requires : tie.Need-fault-requires
-fault-requires c κs = search needs
+fault-requires c κs = tt
 
 returns : tie.Need-returns
 unfolding check _then_
 returns c = λ t s e f. c .fault .ensures ∙ rw (refusal-parts, ne-eqb _ _ (c .before .if1 .taken))
 
 fault-requires-2 : tie.Need-fault-requires-2
-fault-requires-2 c κs = search needs
+fault-requires-2 c κs = tt
 
 returns-2 : tie.Need-returns-2
 unfolding check _then_
@@ -41,13 +40,13 @@ returns-2 c = λ t s e f.
     c .fault2 .ensures ∙ rw (refusal-parts, eq-eqb _ _ (c .before .before .if1 .left), ne-eqb _ _ (c .before .if2 .taken))
 
 counts-requires : tie.Need-counts-requires
-counts-requires c κs = search needs
+counts-requires c κs = tt
 
 enum-known-refusal : tie.Need-enum-known-refusal
-enum-known-refusal c = search needs
+enum-known-refusal c = c .match .keys1
 
 enum-told : tie.Need-enum-told
-enum-told c = search needs
+enum-told c = c .match .keys2
 
 values-requires : tie.Need-values-requires
 values-requires c κs =

@@ -6,7 +6,6 @@ use mathlib.Core.Option.{Option}
 use Prim.Native.Nat.{_+_, _<_}
 use lib.ListN.{length}
 use native.Mathlib.Omega.{arith}
-use borrow.Author.Needs.{needs}
 use borrow.Author.Tests.{ltb-true, ltb-false}
 use Rattle.planning.specs.declared.Refusal.{Refusal}
 use Rattle.planning.specs.Bounds.{mostWatts, mostFuel, mostEnergy, mostLimit}
@@ -44,7 +43,7 @@ pairs-decide c =
     ∙ passes _ _ _ _ (inside 0 1000000000 (a .allowance) (omega arith) (c .if3 .left))
 
 fault-requires : tie.Need-fault-requires
-fault-requires c κs = search needs
+fault-requires c κs = tt
 
 returns : tie.Need-returns
 unfolding valuesRefusal check _then_
@@ -55,7 +54,7 @@ returns c =
     c .fault .ensures ∙ rw (outside 1 10080 minutes wrong)
 
 fault-requires-2 : tie.Need-fault-requires-2
-fault-requires-2 c κs = search needs
+fault-requires-2 c κs = tt
 
 returns-2 : tie.Need-returns-2
 unfolding valuesRefusal check _then_
@@ -68,19 +67,19 @@ returns-2 c =
     )
 
 pairs-requires : tie.Need-pairs-requires
-pairs-requires c κs = search needs
+pairs-requires c κs = omega arith
 
 enum-known-engines : tie.Need-enum-known-engines
-enum-known-engines c = search needs
+enum-known-engines c = c .match .keys1
 
 enum-told : tie.Need-enum-told
-enum-told c = search needs
+enum-told c = c .match .keys2
 
 add-pairs : tie.Need-add-pairs
-add-pairs c = search needs
+add-pairs c = omega arith
 
 pairs-requires-2 : tie.Need-pairs-requires-2
-pairs-requires-2 c κs = search needs
+pairs-requires-2 c κs = omega arith
 
 returns-3 : tie.Need-returns-3
 returns-3 c =

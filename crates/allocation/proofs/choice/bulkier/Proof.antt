@@ -2,7 +2,6 @@
 -- Assumes nothing.
 use Prim.Native.Nat.{_-_}
 use native.Mathlib.Omega.{arith}
-use borrow.Author.Needs.{needs}
 use borrow.Author.Tests.{eq-eqb, ne-eqb}
 use Rattle.planning.specs.Search.{bulkier, comesFirst}
 use Rattle.allocation.specs.Laws.Choice.{product-fits}
@@ -22,10 +21,10 @@ unfolding bulkier comesFirst
 returns-3 c = rw (ne-eqb _ _ (c .before .if1 .left), eq-eqb _ _ (c .if3 .taken))
 
 wide-requires : tie.Need-wide-requires
-wide-requires c κs = search needs
+wide-requires c κs = tt
 
 sub-result : tie.Need-sub-result
-sub-result c = search needs
+sub-result c = omega arith
 
 mul-result : tie.Need-mul-result
 mul-result c =
@@ -33,10 +32,10 @@ mul-result c =
     record { fits = product-fits (c .wide .result) (a .limit-p - 1) (omega arith) (omega arith) }
 
 wide-requires-2 : tie.Need-wide-requires-2
-wide-requires-2 c κs = search needs
+wide-requires-2 c κs = tt
 
 sub-result-2 : tie.Need-sub-result-2
-sub-result-2 c = search needs
+sub-result-2 c = omega arith
 
 mul-result-2 : tie.Need-mul-result-2
 mul-result-2 c =

@@ -5,7 +5,6 @@ use mathlib.Core.Logic.{_⊎_, inl, inr}
 use mathlib.Core.Bool.{true, false}
 use Prim.Native.Nat.{_≤_, _<_}
 use native.Mathlib.Omega.{arith}
-use borrow.Author.Needs.{needs}
 use borrow.Author.Tests.{eq-eqb, ne-eqb}
 use Rattle.planning.specs.Laws.Finite.Decisions.{le-or-lt}
 use Rattle.allocation.specs.Laws.Layout.Slots.{holds-used, holds-row, holds-by}
@@ -72,10 +71,10 @@ cast-slot-of : tie.Need-cast-slot-of
 cast-slot-of c = omega (arith, p-below (c .before))
 
 slot-of-requires : tie.Need-slot-of-requires
-slot-of-requires c κs = search needs
+slot-of-requires c κs = tt
 
 mul-t22 : tie.Need-mul-t22
-mul-t22 c = search needs
+mul-t22 c = omega arith
 
 element-copy-out-t25 : tie.Need-element-copy-out-t25
 element-copy-out-t25 c = in-slot c .0
@@ -84,7 +83,7 @@ element-copy-out-limit-left : tie.Need-element-copy-out-limit-left
 element-copy-out-limit-left c = omega (arith, p-below (c .before .before .before))
 
 mul-limit-left : tie.Need-mul-limit-left
-mul-limit-left c = search needs
+mul-limit-left c = omega arith
 
 element-copy-out-limit-left-2 : tie.Need-element-copy-out-limit-left-2
 element-copy-out-limit-left-2 c = in-slot (c .before .before) .0

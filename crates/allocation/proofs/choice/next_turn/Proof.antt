@@ -52,16 +52,16 @@ smallest-requires c κs = λ i h.
     let engines = c .before .before .before .before .before .pre .engines in (engines .below i h, engines .remains i h .least)
 
 wide-requires : tie.Need-wide-requires
-wide-requires c κs = search needs
+wide-requires c κs = tt
 
 cast-if3 : tie.Need-cast-if3
-cast-if3 c = search needs
+cast-if3 c = omega arith
 
 sub-if3 : tie.Need-sub-if3
 sub-if3 c = limit-range (c .before .before .before .before .before) .least
 
 wide-requires-2 : tie.Need-wide-requires-2
-wide-requires-2 c κs = search needs
+wide-requires-2 c κs = tt
 
 mul-if3 : tie.Need-mul-if3
 mul-if3 c =

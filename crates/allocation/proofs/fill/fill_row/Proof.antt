@@ -6,7 +6,6 @@ use mathlib.Core.Logic.{⊎-elim}
 use mathlib.Core.List.{List}
 use Prim.Native.Nat.{ℕ, _+_, _≤_, _<_, _-_, min}
 use native.Mathlib.Omega.{arith}
-use borrow.Author.Needs.{needs}
 use lib.ListN.{length, set, length-set}
 use Rattle.planning.specs.Search.{at}
 use Rattle.allocation.specs.Laws.Filling.{rowWhole, row-none, row-more, row-all, remainsWhole, remains-none, remains-more, remains-all}
@@ -34,7 +33,7 @@ array-read-has : tie.Need-array-read-has Inv-loop μ-loop
 array-read-has c = omega arith
 
 wide-requires : tie.Need-wide-requires Inv-loop μ-loop
-wide-requires c κs = search needs
+wide-requires c κs = tt
 
 add-table : tie.Need-add-table Inv-loop μ-loop
 add-table c = omega arith
@@ -55,7 +54,7 @@ array-write-after : tie.Need-array-write-after Inv-loop μ-loop
 array-write-after c = omega arith
 
 wide-requires-2 : tie.Need-wide-requires-2 Inv-loop μ-loop
-wide-requires-2 c κs = search needs
+wide-requires-2 c κs = tt
 
 add-table-2 : tie.Need-add-table-2 Inv-loop μ-loop
 add-table-2 c = omega arith

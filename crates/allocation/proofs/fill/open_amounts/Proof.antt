@@ -6,7 +6,6 @@ use mathlib.Core.List.{List, []}
 use Prim.Native.Nat.{ℕ, _+_, _≤_, _<_, _-_}
 use native.Mathlib.Omega.{arith}
 use borrow.Author.Count.{below-none, below-more}
-use borrow.Author.Needs.{needs}
 use lib.ListN.{length, set, length-set}
 use lib.Seq.{getD-set-same, getD-set-other, set-getD, ext-getD}
 use Rattle.planning.specs.Laws.Plans.{length-listed, at-listed}
@@ -35,7 +34,7 @@ cast-if1 : tie.Need-cast-if1 Inv-loop μ-loop
 cast-if1 c = omega arith
 
 shr-if1 : tie.Need-shr-if1 Inv-loop μ-loop
-shr-if1 c = search needs
+shr-if1 c = omega arith
 
 mul-out : tie.Need-mul-out Inv-loop μ-loop
 mul-out c = omega arith

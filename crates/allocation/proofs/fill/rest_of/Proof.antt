@@ -5,7 +5,6 @@ use mathlib.Core.Path.{sym}
 use mathlib.Core.Logic.{⊎-elim}
 use Prim.Native.Nat.{_≤_, _<_}
 use native.Mathlib.Omega.{arith}
-use borrow.Author.Needs.{needs}
 use Rattle.planning.specs.Laws.Finite.Decisions.{le-or-lt}
 use Rattle.allocation.specs.Laws.Members.{member, no-member}
 use Rattle.allocation.specs.Laws.Layout.Slots.{holds-used, holds-row, holds-by}
@@ -15,7 +14,7 @@ use Rattle.allocation.proofs.fill.rest_of.Statement.{statement}
 use Rattle.allocation.proofs.fill.rest_of.Tie as tie
 
 shr-if1 : tie.Need-shr-if1
-shr-if1 c = search needs
+shr-if1 c = omega arith
 
 returns : tie.Need-returns
 returns c =
@@ -23,13 +22,13 @@ returns c =
     sym (rest-done _ _ _ _ _ _ _ (c .before .pre .0 .1) (a .p) (no-member (a .left) (a .p) (λ e. omega arith)))
 
 shr-if2 : tie.Need-shr-if2
-shr-if2 c = search needs
+shr-if2 c = omega arith
 
 mul-result : tie.Need-mul-result
-mul-result c = search needs
+mul-result c = omega arith
 
 element-copy-out-result : tie.Need-element-copy-out-result
-element-copy-out-result c = search needs
+element-copy-out-result c = omega arith
 
 returns-2 : tie.Need-returns-2
 unfolding restAt
@@ -38,13 +37,13 @@ returns-2 c =
     rw (member (a .untouched) (a .p) (c .before .if2 .taken))
 
 cast-slot-of : tie.Need-cast-slot-of
-cast-slot-of c = search needs
+cast-slot-of c = omega arith
 
 slot-of-requires : tie.Need-slot-of-requires
-slot-of-requires c κs = search needs
+slot-of-requires c κs = tt
 
 mul-result-2 : tie.Need-mul-result-2
-mul-result-2 c = search needs
+mul-result-2 c = omega arith
 
 -- a delivery that is begun has a slot
 slot-found : (c : tie.After-slot-of) → c .slot-of .result < 12

@@ -31,7 +31,7 @@ abbrev μ-loop : tie.MeasureT-loop
 μ-loop table₀ engines deliveries left untouched amount served row «open» energy remaining₀ p₀ table remaining p = deliveries - p
 
 open-amounts-requires : tie.Need-open-amounts-requires Inv-loop μ-loop
-open-amounts-requires c κs = search needs
+open-amounts-requires c κs = omega arith
 
 loop-holds : tie.Need-loop-holds Inv-loop μ-loop
 loop-holds c =

@@ -7,19 +7,19 @@ use Rattle.allocation.proofs.modes.answer_of.Statement.{statement}
 use Rattle.allocation.proofs.modes.answer_of.Tie as tie
 
 enum-known-ended : tie.Need-enum-known-ended
-enum-known-ended c = search needs
+enum-known-ended c = c .match .keys1
 
 cast-t8 : tie.Need-cast-t8
 cast-t8 c = search needs
 
 enum-known-ended-2 : tie.Need-enum-known-ended-2
-enum-known-ended-2 c = search needs
+enum-known-ended-2 c = c .match .keys2
 
 cast-t10 : tie.Need-cast-t10
 cast-t10 c = search needs
 
 enum-known-ended-3 : tie.Need-enum-known-ended-3
-enum-known-ended-3 c = search needs
+enum-known-ended-3 c = c .match .keys3
 
 cast-t12 : tie.Need-cast-t12
 cast-t12 c = search needs

@@ -29,10 +29,10 @@ loop-holds c =
     (omega arith, omega arith, omega (arith, start .fits .tries), refl, λ mode given. record { finds = start .pre .6 mode given; same = refl })
 
 sub-loop : tie.Need-sub-loop Inv-loop μ-loop
-sub-loop c = search needs
+sub-loop c = omega arith
 
 add-t : tie.Need-add-t Inv-loop μ-loop
-add-t c = search needs
+add-t c = omega arith
 
 search-at-requires : tie.Need-search-at-requires Inv-loop μ-loop
 search-at-requires c κs =
@@ -47,10 +47,10 @@ search-at-requires c κs =
     )
 
 enum-known-ended : tie.Need-enum-known-ended Inv-loop μ-loop
-enum-known-ended c = search needs
+enum-known-ended c = c .match .keys1
 
 loop-less : tie.Need-loop-less Inv-loop μ-loop
-loop-less c = search needs
+loop-less c = omega arith
 
 loop-again : tie.Need-loop-again Inv-loop μ-loop
 loop-again c =
@@ -67,10 +67,10 @@ loop-again c =
     )
 
 enum-told : tie.Need-enum-told Inv-loop μ-loop
-enum-told c = search needs
+enum-told c = c .match .keys2
 
 loop-less-2 : tie.Need-loop-less-2 Inv-loop μ-loop
-loop-less-2 c = search needs
+loop-less-2 c = omega arith
 
 loop-again-2 : tie.Need-loop-again-2 Inv-loop μ-loop
 loop-again-2 c =
@@ -87,13 +87,13 @@ loop-again-2 c =
     )
 
 enum-known-ended-2 : tie.Need-enum-known-ended-2 Inv-loop μ-loop
-enum-known-ended-2 c = search needs
+enum-known-ended-2 c = c .match .keys3
 
 cast-t23 : tie.Need-cast-t23 Inv-loop μ-loop
-cast-t23 c = search needs
+cast-t23 c = omega arith
 
 same-length : tie.Need-same-length Inv-loop μ-loop
-same-length c = search needs
+same-length c = omega arith
 
 returns : tie.Need-returns Inv-loop μ-loop
 returns c =
@@ -107,10 +107,10 @@ returns c =
     )
 
 cast-t25 : tie.Need-cast-t25 Inv-loop μ-loop
-cast-t25 c = search needs
+cast-t25 c = omega arith
 
 same-length-2 : tie.Need-same-length-2 Inv-loop μ-loop
-same-length-2 c = search needs
+same-length-2 c = omega arith
 
 returns-2 : tie.Need-returns-2 Inv-loop μ-loop
 returns-2 c =

@@ -5,7 +5,6 @@ use Prim.Native.Nat.{ℕ, _-_}
 use lib.Dec.{ltb}
 use lib.Pow.{pow-pos}
 use native.Mathlib.Omega.{arith}
-use borrow.Author.Needs.{needs}
 use Rattle.allocation.specs.Laws.FirstSet.{has-first}
 use Rattle.allocation.specs.Laws.Sets.{shifted}
 use Rattle.allocation.specs.Sets.{has}
@@ -13,7 +12,7 @@ use Rattle.allocation.proofs.modes.first_deliveries.Statement.{statemen
 use Rattle.allocation.proofs.modes.first_deliveries.Tie as tie
 
 shl-result : tie.Need-shl-result
-shl-result c = search needs
+shl-result c = omega arith
 
 sub-result : tie.Need-sub-result
 sub-result c = let n = c .before .args .n in omega (arith, shifted 64 n (omega arith), pow-pos n)

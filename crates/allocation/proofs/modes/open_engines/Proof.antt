@@ -12,7 +12,6 @@ use native.Mathlib.Nat.{pow-suc}
 use native.Mathlib.Numerals.{add-one}
 use native.Mathlib.Omega.{arith}
 use borrow.Author.Count.{below-more}
-use borrow.Author.Needs.{needs}
 use borrow.Author.Tests.{lt-ltb, le-ltb}
 use Rattle.planning.specs.Laws.Finite.Decisions.{le-or-lt}
 use Rattle.planning.specs.Search.{at}
@@ -68,26 +67,26 @@ loop-holds : tie.Need-loop-holds Inv-loop μ-loop
 loop-holds c = (omega arith, omega arith, λ k l. absurd (omega arith))
 
 mul-if1 : tie.Need-mul-if1 Inv-loop μ-loop
-mul-if1 c = search needs
+mul-if1 c = omega arith
 
 element-copy-out-if1 : tie.Need-element-copy-out-if1 Inv-loop μ-loop
-element-copy-out-if1 c = search needs
+element-copy-out-if1 c = omega arith
 
 cast-open : tie.Need-cast-open Inv-loop μ-loop
-cast-open c = search needs
+cast-open c = omega arith
 
 shl-open : tie.Need-shl-open Inv-loop μ-loop
-shl-open c = search needs
+shl-open c = omega arith
 
 add-open : tie.Need-add-open Inv-loop μ-loop
 add-open c =
     let here = c .before .before .before .loop in omega (arith, shifted 16 (here .i) (omega arith), pow-mono {i = here .i} {j = 11} (omega arith))
 
 add-i : tie.Need-add-i Inv-loop μ-loop
-add-i c = search needs
+add-i c = omega arith
 
 loop-less : tie.Need-loop-less Inv-loop μ-loop
-loop-less c = search needs
+loop-less c = omega arith
 
 loop-again : tie.Need-loop-again Inv-loop μ-loop
 loop-again c =

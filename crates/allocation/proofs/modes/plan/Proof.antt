@@ -22,25 +22,25 @@ narrow-limits-requires c κs =
     )
 
 cast-allowed : tie.Need-cast-allowed
-cast-allowed c = search needs
+cast-allowed c = omega arith
 
 enum-told : tie.Need-enum-told
-enum-told c = search needs
+enum-told c = c .match .keys1
 
 search-at-requires : tie.Need-search-at-requires
 search-at-requires c κs = search needs
 
 answer-of-requires : tie.Need-answer-of-requires
-answer-of-requires c κs = search needs
+answer-of-requires c κs = tt
 
 enum-told-2 : tie.Need-enum-told-2
-enum-told-2 c = search needs
+enum-told-2 c = c .match .keys2
 
 shortest-requires : tie.Need-shortest-requires
 shortest-requires c κs = search needs
 
 same-length : tie.Need-same-length
-same-length c = search needs
+same-length c = c .before .before .table .given
 
 returns : tie.Need-returns
 unfolding plannedAt
@@ -54,7 +54,7 @@ returns c =
     )
 
 same-length-2 : tie.Need-same-length-2
-same-length-2 c = search needs
+same-length-2 c = omega arith
 
 returns-2 : tie.Need-returns-2
 returns-2 c =

@@ -1,7 +1,6 @@
 -- `modes::search_at` meets its contract: step A by the two sums, the other steps by the search from the first state. What these mean for
 -- a plan on numbers is in specs/Laws/SearchAt. Assumes nothing.
 use mathlib.Core.Path.{sym, ap, _∙_}
-use borrow.Author.Needs.{needs}
 use native.Mathlib.Omega.{arith}
 use Rattle.planning.specs.Search.{Result}
 use Rattle.allocation.specs.Laws.Paired.{delivery-ranges}
@@ -35,10 +34,10 @@ returns c =
     )
 
 first-deliveries-requires : tie.Need-first-deliveries-requires
-first-deliveries-requires c κs = search needs
+first-deliveries-requires c κs = omega arith
 
 open-engines-requires : tie.Need-open-engines-requires
-open-engines-requires c κs = search needs
+open-engines-requires c κs = omega arith
 
 choose-requires : tie.Need-choose-requires
 choose-requires c κs =
@@ -56,7 +55,7 @@ choose-requires c κs =
     )
 
 same-length : tie.Need-same-length
-same-length c = search needs
+same-length c = c .before .table .given
 
 returns-2 : tie.Need-returns-2
 unfolding endedOf written

@@ -6,7 +6,6 @@ use mathlib.Core.List.{List, [], _++_}
 use Prim.Native.Nat.{ℕ, _≤_}
 use lib.ListN.{length, drop, replicate}
 use lib.Seq.{length-take-le, length-front}
-use borrow.Author.Needs.{needs}
 use native.Mathlib.Omega.{arith}
 use Rattle.planning.specs.declared.Mode.the-variants.{Shortest}
 use Rattle.planning.specs.Search.{found}
@@ -41,7 +40,7 @@ search-at-requires c κs =
     )
 
 enum-known-ended : tie.Need-enum-known-ended
-enum-known-ended c = search needs
+enum-known-ended c = c .match .keys1
 
 array-borrow-prefix-scratch-2 : tie.Need-array-borrow-prefix-scratch-2
 array-borrow-prefix-scratch-2 c =
@@ -79,7 +78,7 @@ bisect-requires c κs =
     )
 
 enum-told : tie.Need-enum-told
-enum-told c = search needs
+enum-told c = c .match2 .keys1
 
 copy-requires : tie.Need-copy-requires
 copy-requires c κs =
@@ -94,19 +93,19 @@ copy-requires c κs =
     )
 
 enum-known-ended-2 : tie.Need-enum-known-ended-2
-enum-known-ended-2 c = search needs
+enum-known-ended-2 c = c .match .keys2
 
 cast-t28 : tie.Need-cast-t28
-cast-t28 c = search needs
+cast-t28 c = omega arith
 
 enum-known-ended-3 : tie.Need-enum-known-ended-3
-enum-known-ended-3 c = search needs
+enum-known-ended-3 c = c .match .keys3
 
 cast-t30 : tie.Need-cast-t30
-cast-t30 c = search needs
+cast-t30 c = omega arith
 
 same-length : tie.Need-same-length
-same-length c = search needs
+same-length c = c .before .table .given
 
 returns : tie.Need-returns
 returns c =

@@ -7,7 +7,6 @@ use Prim.Native.Nat.{ℕ, _-_, _≤_, _<_}
 use lib.ListN.{length}
 use lib.Seq.{take-all}
 use native.Mathlib.Omega.{arith}
-use borrow.Author.Needs.{needs}
 use Rattle.planning.specs.declared.Mode.the-variants.{Fixed}
 use Rattle.planning.specs.Capacity.{capacity}
 use Rattle.planning.specs.Modes.{spares, pieceIn}
@@ -78,23 +77,23 @@ loop-holds : tie.Need-loop-holds Inv-loop μ-loop
 loop-holds c = (omega arith, front-none _ _)
 
 mul-capacity : tie.Need-mul-capacity Inv-loop μ-loop
-mul-capacity c = search needs
+mul-capacity c = omega arith
 
 shared-slice-read-capacity : tie.Need-shared-slice-read-capacity Inv-loop μ-loop
-shared-slice-read-capacity c = search needs
+shared-slice-read-capacity c = omega arith
 
 mul-capacity-2 : tie.Need-mul-capacity-2 Inv-loop μ-loop
-mul-capacity-2 c = search needs
+mul-capacity-2 c = omega arith
 
 shared-slice-read-capacity-2 : tie.Need-shared-slice-read-capacity-2 Inv-loop μ-loop
-shared-slice-read-capacity-2 c = search needs
+shared-slice-read-capacity-2 c = omega arith
 
 capacity-requires : tie.Need-capacity-requires Inv-loop μ-loop
 capacity-requires c κs =
     let turn = c .before .before in (engine-fits turn .watts .most, engine-fits turn .fuel .most, entry (turn .before) .pre .1)
 
 wide-requires : tie.Need-wide-requires Inv-loop μ-loop
-wide-requires c κs = search needs
+wide-requires c κs = tt
 
 load-requires : tie.Need-load-requires Inv-loop μ-loop
 unfolding capacity
@@ -113,16 +112,16 @@ sub-spare c =
     omega (arith, drawn (c .before .before .before .before .before), c .load .ensures, c .before .wide .ensures, c .before .before .capacity .ensures)
 
 mul-spare : tie.Need-mul-spare Inv-loop μ-loop
-mul-spare c = search needs
+mul-spare c = omega arith
 
 slice-write-spare : tie.Need-slice-write-spare Inv-loop μ-loop
 slice-write-spare c = let turn = c .before .before .before .before .before in rw (kept (turn .before)) (inside turn)
 
 add-i : tie.Need-add-i Inv-loop μ-loop
-add-i c = search needs
+add-i c = omega arith
 
 loop-less : tie.Need-loop-less Inv-loop μ-loop
-loop-less c = search needs
+loop-less c = omega arith
 
 loop-again : tie.Need-loop-again Inv-loop μ-loop
 loop-again c =

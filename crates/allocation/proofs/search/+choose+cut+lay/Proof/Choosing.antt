@@ -30,19 +30,19 @@ module _ (t : ℕ) where
   next-turn-requires c κs = search needs
 
   pub enum-told : choose-lts.Need-enum-told (choose-claims t) (choose-at t) choose.Post
-  enum-told c = search needs
+  enum-told c = c .match .keys1
 
   pub clear-requires : choose-lts.Need-clear-requires (choose-claims t) (choose-at t) choose.Post
-  clear-requires c κs = search needs
+  clear-requires c κs = tt
 
   pub enum-told-2 : choose-lts.Need-enum-told-2 (choose-claims t) (choose-at t) choose.Post
-  enum-told-2 c = search needs
+  enum-told-2 c = c .match .keys2
 
   pub straight-requires : choose-lts.Need-straight-requires (choose-claims t) (choose-at t) choose.Post
   straight-requires c κs = search needs
 
   pub enum-known-turn : choose-lts.Need-enum-known-turn (choose-claims t) (choose-at t) choose.Post
-  enum-known-turn c = search needs
+  enum-known-turn c = c .match .keys3
 
   pub lay-requires : choose-lts.Need-lay-requires (choose-claims t) (choose-at t) choose.Post
   unfolding PickOf
@@ -53,7 +53,7 @@ module _ (t : ℕ) where
       (omega (arith, given .0), (given .1 .0, given .1 .1, given .1 .2, given .1 .3, picked .0, picked .1))
 
   pub enum-known-turn-2 : choose-lts.Need-enum-known-turn-2 (choose-claims t) (choose-at t) choose.Post
-  enum-known-turn-2 c = search needs
+  enum-known-turn-2 c = c .match .keys4
 
   pub cut-requires : choose-lts.Need-cut-requires (choose-claims t) (choose-at t) choose.Post
   unfolding PickOf
@@ -64,7 +64,7 @@ module _ (t : ℕ) where
       (omega (arith, given .0), (given .1 .0, given .1 .1, given .1 .2, given .1 .3, picked .0, picked .1))
 
   pub same-length : choose-lts.Need-same-length (choose-claims t) (choose-at t) choose.Post
-  same-length c = search needs
+  same-length c = c .before .table .given
 
   -- B: found, with no piece
   pub returns : choose-lts.Need-returns (choose-claims t) (choose-at t) choose.Post
@@ -76,7 +76,7 @@ module _ (t : ℕ) where
       (finished-answers _ _ (start .args .energy .now) (start .args .limit .now) (start .args .t1) _ _ _ _ (start .pre .1 .3) (c .before .before .clear .ensures))
 
   pub same-length-2 : choose-lts.Need-same-length-2 (choose-claims t) (choose-at t) choose.Post
-  same-length-2 c = search needs
+  same-length-2 c = omega arith
 
   -- E: found by straight fill
   pub returns-2 : choose-lts.Need-returns-2 (choose-claims t) (choose-at t) choose.Post
@@ -86,7 +86,7 @@ module _ (t : ℕ) where
       turn-answers _ _ _ _ _ (told .enum-told2 .given .1) (step-of (told .before .before)) _ (refl, c .before .before .straight .ensures)
 
   pub same-length-3 : choose-lts.Need-same-length-3 (choose-claims t) (choose-at t) choose.Post
-  same-length-3 c = search needs
+  same-length-3 c = omega arith
 
   -- D
   pub returns-3 : choose-lts.Need-returns-3 (choose-claims t) (choose-at t) choose.Post
@@ -96,7 +96,7 @@ module _ (t : ℕ) where
       (c .before .before .lay .ensures)
 
   pub same-length-4 : choose-lts.Need-same-length-4 (choose-claims t) (choose-at t) choose.Post
-  same-length-4 c = search needs
+  same-length-4 c = omega arith
 
   -- F
   pub returns-4 : choose-lts.Need-returns-4 (choose-claims t) (choose-at t) choose.Post

@@ -6,7 +6,6 @@ use Prim.Native.Nat.{ℕ, _+_, _*_, _<_}
 use native.Mathlib.Omega.{arith}
 use lib.Count.{trailingZeros}
 use lib.ListN.{length, length-set}
-use borrow.Author.Needs.{needs}
 use Rattle.allocation.specs.Laws.Rounds.Kinds.{cutting}
 use Rattle.allocation.specs.Laws.Rounds.Loop.{Loop, loop-starts, loop-passes, loop-stops, loop-asks, loop-finds, loop-halts, loop-goes-on, loop-cuts}
 use Rattle.allocation.specs.Laws.Rounds.Walk.{walk-ends, walk-engine, walk-cell, walk-power, walk-less}
@@ -79,10 +78,10 @@ module _ (t : ℕ) where
       (omega (arith, asks .0, turn .before .before .before .pre .0), asks .1)
 
   pub enum-known-ended : cut-lts.Need-enum-known-ended (cut-claims t) (cut-at t) cut.Post Inv-loop μ-loop
-  enum-known-ended c = search needs
+  enum-known-ended c = c .match .keys1
 
   pub wide-requires : cut-lts.Need-wide-requires (cut-claims t) (cut-at t) cut.Post Inv-loop μ-loop
-  wide-requires c κs = search needs
+  wide-requires c κs = tt
 
   pub mul-table : cut-lts.Need-mul-table (cut-claims t) (cut-at t) cut.Post Inv-loop μ-loop
   mul-table c =
@@ -116,7 +115,7 @@ module _ (t : ℕ) where
       (c .before .before .ended .given .1) (c .wide .ensures)
 
   pub enum-known-ended-2 : cut-lts.Need-enum-known-ended-2 (cut-claims t) (cut-at t) cut.Post Inv-loop μ-loop
-  enum-known-ended-2 c = search needs
+  enum-known-ended-2 c = c .match .keys2
 
   pub same-length-3 : cut-lts.Need-same-length-3 (cut-claims t) (cut-at t) cut.Post Inv-loop μ-loop
   same-length-3 c = same-table (c .before .before .before .before .before)
@@ -130,7 +129,7 @@ module _ (t : ℕ) where
       (c .before .ended2 .given .1)
 
   pub enum-known-ended-3 : cut-lts.Need-enum-known-ended-3 (cut-claims t) (cut-at t) cut.Post Inv-loop μ-loop
-  enum-known-ended-3 c = search needs
+  enum-known-ended-3 c = c .match .keys3
 
   pub cast-set : cut-lts.Need-cast-set (cut-claims t) (cut-at t) cut.Post Inv-loop μ-loop
   cast-set c = omega (arith, walk-engine (c .before .before .before .loop .inv .walk) (c .before .before .loop-test .taken))

@@ -6,7 +6,6 @@ use Prim.Native.Nat.{ℕ, _+_, _*_, _<_}
 use native.Mathlib.Omega.{arith}
 use lib.Count.{trailingZeros}
 use lib.ListN.{length, length-set}
-use borrow.Author.Needs.{needs}
 use Rattle.allocation.specs.Laws.Rounds.Kinds.{laying}
 use Rattle.allocation.specs.Laws.Rounds.Loop.{Loop, loop-starts, loop-passes, loop-stops, loop-asks, loop-finds, loop-halts, loop-goes-on, loop-lays}
 use Rattle.allocation.specs.Laws.Rounds.Walk.{walk-ends, walk-engine, walk-cell, walk-power, walk-less}
@@ -79,10 +78,10 @@ module _ (t : ℕ) where
       (omega (arith, asks .0, turn .before .before .before .pre .0), asks .1)
 
   pub enum-known-ended : lay-lts.Need-enum-known-ended (lay-claims t) (lay-at t) lay.Post Inv-loop μ-loop
-  enum-known-ended c = search needs
+  enum-known-ended c = c .match .keys1
 
   pub wide-requires : lay-lts.Need-wide-requires (lay-claims t) (lay-at t) lay.Post Inv-loop μ-loop
-  wide-requires c κs = search needs
+  wide-requires c κs = tt
 
   pub mul-table : lay-lts.Need-mul-table (lay-claims t) (lay-at t) lay.Post Inv-loop μ-loop
   mul-table c =
@@ -116,7 +115,7 @@ module _ (t : ℕ) where
       (c .before .before .ended .given .1) (c .wide .ensures)
 
   pub enum-known-ended-2 : lay-lts.Need-enum-known-ended-2 (lay-claims t) (lay-at t) lay.Post Inv-loop μ-loop
-  enum-known-ended-2 c = search needs
+  enum-known-ended-2 c = c .match .keys2
 
   pub same-length-3 : lay-lts.Need-same-length-3 (lay-claims t) (lay-at t) lay.Post Inv-loop μ-loop
   same-length-3 c = same-table (c .before .before .before .before .before)
@@ -130,7 +129,7 @@ module _ (t : ℕ) where
       (c .before .ended2 .given .1)
 
   pub enum-known-ended-3 : lay-lts.Need-enum-known-ended-3 (lay-claims t) (lay-at t) lay.Post Inv-loop μ-loop
-  enum-known-ended-3 c = search needs
+  enum-known-ended-3 c = c .match .keys3
 
   pub cast-set : lay-lts.Need-cast-set (lay-claims t) (lay-at t) lay.Post Inv-loop μ-loop
   cast-set c = omega (arith, walk-engine (c .before .before .before .loop .inv .walk) (c .before .before .loop-test .taken))

@@ -4,7 +4,6 @@
 use Prim.Native.Nat.{ℕ, _+_, _-_, _*_, _%_, _^_, _<_}
 use mathlib.Core.Path.{_≡_, refl, ap}
 use native.Mathlib.Omega.{arith}
-use borrow.Author.Needs.{needs}
 use lib.ListN.{set}
 use Rattle.planning.specs.Search.{at}
 use Rattle.allocation.specs.Laws.Sets.{shifted, shifted-le, with-below}
@@ -39,19 +38,19 @@ sub-self c =
     shifted-le 16 (c .before .args .t1 .«open») (c .before .args .i) (omega (arith, engine-below (c .before))) (c .before .pre .engine)
 
 sub-self-2 : tie.Need-sub-self-2
-sub-self-2 c = search needs
+sub-self-2 c = omega arith
 
 mul-self : tie.Need-mul-self
-mul-self c = search needs
+mul-self c = omega arith
 
 element-write-self : tie.Need-element-write-self
-element-write-self c = search needs
+element-write-self c = omega arith
 
 mul-self-2 : tie.Need-mul-self-2
-mul-self-2 c = search needs
+mul-self-2 c = omega arith
 
 element-copy-out-self : tie.Need-element-copy-out-self
-element-copy-out-self c = search needs
+element-copy-out-self c = omega arith
 
 cast-self-2 : tie.Need-cast-self-2
 cast-self-2 c = omega (arith, engine-below (c .before .before .before))
@@ -74,10 +73,10 @@ add-self c =
     }
 
 mul-self-3 : tie.Need-mul-self-3
-mul-self-3 c = search needs
+mul-self-3 c = omega arith
 
 element-write-self-2 : tie.Need-element-write-self-2
-element-write-self-2 c = search needs
+element-write-self-2 c = omega arith
 
 shl-self-3 : tie.Need-shl-self-3
 shl-self-3 c = delivery-below (c .before .before)
@@ -92,7 +91,7 @@ sub-self-3 c =
     (c .before .before .pre .picked .isSlot .none (no-slot c))
 
 sub-self-4 : tie.Need-sub-self-4
-sub-self-4 c = search needs
+sub-self-4 c = omega arith
 
 mul-self-4 : tie.Need-mul-self-4
 mul-self-4 c = omega (arith, engine-below (c .before .before))

@@ -6,7 +6,6 @@ use mathlib.Core.Path.{_≡_, ap, _∙_}
 use mathlib.Core.Logic.{⊎-elim}
 use mathlib.Core.List.{List}
 use native.Mathlib.Omega.{arith}
-use borrow.Author.Needs.{needs}
 use lib.ListN.{set}
 use Rattle.allocation.specs.declared.state.State.{State}
 use Rattle.allocation.specs.Laws.Sets.{shifted, shifted-le}
@@ -27,7 +26,7 @@ element-copy-out-remaining : tie.Need-element-copy-out-remaining
 element-copy-out-remaining c = engine-below c
 
 sub-remaining : tie.Need-sub-remaining
-sub-remaining c = search needs
+sub-remaining c = omega arith
 
 mul-self : tie.Need-mul-self
 mul-self c = omega (arith, engine-below (c .before))
@@ -82,10 +81,10 @@ sub-self-2 c =
     (c .before .before .pre .picked .isLeft))
 
 mul-self-2 : tie.Need-mul-self-2
-mul-self-2 c = search needs
+mul-self-2 c = omega arith
 
 element-write-self-2 : tie.Need-element-write-self-2
-element-write-self-2 c = search needs
+element-write-self-2 c = omega arith
 
 shl-self-3 : tie.Need-shl-self-3
 shl-self-3 c = delivery-below (c .before .before .before)
