@@ -2,7 +2,6 @@
 use mathlib.Core.Path.{sym, ap}
 use native.Mathlib.Omega.{arith}
 use lib.ListN.{drop-of-length-le}
-use borrow.Author.Needs.{needs}
 use Rattle.csv.specs.Fields.{allText}
 use Rattle.csv.specs.Laws.Scans.{text-found}
 use Rattle.csv.proofs.fields.all_text.Statement.{statement}
@@ -13,7 +12,7 @@ unfolding allText
 returns c = ap allText (sym (drop-of-length-le (c .before .before .args .raw .now) {i = 0} (omega arith)))
 
 find-on-requires : tie.Need-find-on-requires
-find-on-requires c κs = search needs
+find-on-requires c κs = tt
 
 returns-2 : tie.Need-returns-2
 returns-2 c = text-found _ _ (c .find-on .ensures)

@@ -1,12 +1,11 @@
 -- `csv::fields::form_of` meets its contract: the measure says which form it is. Assumes nothing.
-use borrow.Author.Needs.{needs}
 use borrow.Author.Tests.{not-true, not-false}
 use Rattle.csv.specs.Laws.Parts.{form-measured}
 use Rattle.csv.proofs.fields.form_of.Statement.{statement}
 use Rattle.csv.proofs.fields.form_of.Tie as tie
 
 measure-requires : tie.Need-measure-requires
-measure-requires c κs = search needs
+measure-requires c κs = tt
 
 returns : tie.Need-returns
 returns c =

@@ -13,16 +13,16 @@ use Rattle.csv.proofs.fields.measure.Statement.{statement}
 use Rattle.csv.proofs.fields.measure.Tie as tie
 
 shared-slice-read-if2 : tie.Need-shared-slice-read-if2
-shared-slice-read-if2 c = search needs
+shared-slice-read-if2 c = omega arith
 
 measure-quoted-requires : tie.Need-measure-quoted-requires
-measure-quoted-requires c κs = search needs
+measure-quoted-requires c κs = omega arith
 
 returns : tie.Need-returns
 returns c = search needs
 
 all-text-requires : tie.Need-all-text-requires
-all-text-requires c κs = search needs
+all-text-requires c κs = tt
 
 returns-2 : tie.Need-returns-2
 returns-2 c = sym (text-measured _ (sym (c .before .all-text .ensures) ∙ c .if3 .taken))

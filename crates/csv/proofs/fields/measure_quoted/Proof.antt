@@ -7,7 +7,6 @@ use Prim.Native.Nat.{_+_, _-_, _≤_, _<_}
 use native.Mathlib.Omega.{arith}
 use types.Run.{miss}
 use lib.ListN.{length, drop, drop-of-length-le}
-use borrow.Author.Needs.{needs}
 use borrow.Author.Tests.{not-false}
 use Rattle.csv.specs.Bytes.{quote}
 use Rattle.csv.specs.Measures.{measured}
@@ -30,7 +29,7 @@ shared-slice-read-b : tie.Need-shared-slice-read-b Inv-loop μ-loop
 shared-slice-read-b c = omega arith
 
 is-plain-requires : tie.Need-is-plain-requires Inv-loop μ-loop
-is-plain-requires c κs = search needs
+is-plain-requires c κs = tt
 
 sub-if3 : tie.Need-sub-if3 Inv-loop μ-loop
 sub-if3 c = omega arith
@@ -55,10 +54,10 @@ add-at : tie.Need-add-at Inv-loop μ-loop
 add-at c = omega arith
 
 class-of-requires : tie.Need-class-of-requires Inv-loop μ-loop
-class-of-requires c κs = search needs
+class-of-requires c κs = tt
 
 enum-told : tie.Need-enum-told Inv-loop μ-loop
-enum-told c = search needs
+enum-told c = c .match .keys1
 
 add-length : tie.Need-add-length Inv-loop μ-loop
 add-length c = omega arith

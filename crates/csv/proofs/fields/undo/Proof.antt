@@ -6,7 +6,6 @@ use mathlib.Core.Option.{some}
 use Prim.Native.Nat.{_≤_}
 use native.Mathlib.Omega.{arith}
 use lib.ListN.{length, getD}
-use borrow.Author.Needs.{needs}
 use borrow.Author.Tests.{not-true, not-false, le-leb, lt-leb}
 use Rattle.csv.specs.declared.fields.Measured.{Measured}
 use Rattle.csv.specs.declared.Undone.the-variants.{Length}
@@ -18,7 +17,7 @@ use Rattle.csv.proofs.fields.undo.Statement.{statement}
 use Rattle.csv.proofs.fields.undo.Tie as tie
 
 measure-requires : tie.Need-measure-requires
-measure-requires c κs = search needs
+measure-requires c κs = tt
 
 returns : tie.Need-returns
 unfolding undone undoneBy undoneOnExit undoneOnExitBy
@@ -57,7 +56,7 @@ fits c =
     rw (value .reads, fit) (ap Length (counted (c .before)))
 
 shared-slice-read-if4 : tie.Need-shared-slice-read-if4
-shared-slice-read-if4 c = search needs
+shared-slice-read-if4 c = omega arith
 
 copy-undone-requires : tie.Need-copy-undone-requires
 copy-undone-requires c κs =
@@ -66,7 +65,7 @@ copy-undone-requires c κs =
     (omega arith, (omega arith, c .before .if4 .taken, (value .value, value .reads, sym (counted else1))))
 
 same-length : tie.Need-same-length
-same-length c = search needs
+same-length c = c .before .out .given
 
 returns-3 : tie.Need-returns-3
 returns-3 c = (fits (c .before .before .before .before .before .before .before), c .before .before .copy-undone .ensures)
@@ -84,7 +83,7 @@ copy-plain-requires c κs =
     (omega (arith, counted else1, ap length same), value .reads ∙ ap some same)
 
 same-length-2 : tie.Need-same-length-2
-same-length-2 c = search needs
+same-length-2 c = omega arith
 
 returns-4 : tie.Need-returns-4
 returns-4 c = (fits (c .before .before .before .before .before), c .before .before .copy-plain .ensures)

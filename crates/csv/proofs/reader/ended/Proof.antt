@@ -2,7 +2,6 @@
 use mathlib.Core.Path.{sym, _∙_}
 use mathlib.Core.Logic.{⊎-elim}
 use native.Mathlib.Omega.{arith}
-use borrow.Author.Needs.{needs}
 use Rattle.csv.specs.Spans.{beforeComma, beforeRecordEnd, withFile}
 use Rattle.csv.specs.Laws.ReaderSteps.{ends-with-file, ends-at-comma, ends-at-record-end, ends-alone, ends-nowhere}
 use Rattle.csv.proofs.reader.ended.Statement.{statement}
@@ -13,29 +12,29 @@ unfolding withFile
 returns c = sym (ends-with-file _ _ (c .if1 .taken))
 
 shared-slice-read-if2 : tie.Need-shared-slice-read-if2
-shared-slice-read-if2 c = search needs
+shared-slice-read-if2 c = omega arith
 
 add-t7 : tie.Need-add-t7
-add-t7 c = search needs
+add-t7 c = omega arith
 
 returns-2 : tie.Need-returns-2
 unfolding beforeComma
 returns-2 c = sym (ends-at-comma _ _ (c .before .before .if1 .left) (c .if2 .taken))
 
 sub-if3 : tie.Need-sub-if3
-sub-if3 c = search needs
+sub-if3 c = omega arith
 
 shared-slice-read-if4 : tie.Need-shared-slice-read-if4
-shared-slice-read-if4 c = search needs
+shared-slice-read-if4 c = omega arith
 
 add-if5 : tie.Need-add-if5
-add-if5 c = search needs
+add-if5 c = omega arith
 
 shared-slice-read-if5 : tie.Need-shared-slice-read-if5
-shared-slice-read-if5 c = search needs
+shared-slice-read-if5 c = omega arith
 
 add-t16 : tie.Need-add-t16
-add-t16 c = search needs
+add-t16 c = omega arith
 
 returns-3 : tie.Need-returns-3
 unfolding beforeRecordEnd
@@ -44,7 +43,7 @@ returns-3 c =
     sym (ends-at-record-end _ _ inside (omega arith) (c .before .before .if4 .taken) (c .if5 .taken))
 
 broken-requires : tie.Need-broken-requires
-broken-requires c κs = search needs
+broken-requires c κs = tt
 
 returns-4 : tie.Need-returns-4
 returns-4 c =

@@ -2,25 +2,24 @@
 use mathlib.Core.Path.{sym, _∙_}
 use mathlib.Core.Logic.{⊎-elim}
 use native.Mathlib.Omega.{arith}
-use borrow.Author.Needs.{needs}
 use Rattle.csv.specs.Laws.Reader.{field-quoted, field-unquoted}
 use Rattle.csv.proofs.reader.field_read.Statement.{statement}
 use Rattle.csv.proofs.reader.field_read.Tie as tie
 
 shared-slice-read-if2 : tie.Need-shared-slice-read-if2
-shared-slice-read-if2 c = search needs
+shared-slice-read-if2 c = omega arith
 
 add-read-quoted : tie.Need-add-read-quoted
-add-read-quoted c = search needs
+add-read-quoted c = omega arith
 
 read-quoted-requires : tie.Need-read-quoted-requires
-read-quoted-requires c κs = search needs
+read-quoted-requires c κs = tt
 
 returns : tie.Need-returns
 returns c = c .read-quoted .ensures ∙ sym (field-quoted _ _ (c .before .before .before .if1 .taken) (c .before .if2 .taken))
 
 read-plain-requires : tie.Need-read-plain-requires
-read-plain-requires c κs = search needs
+read-plain-requires c κs = tt
 
 returns-2 : tie.Need-returns-2
 returns-2 c =

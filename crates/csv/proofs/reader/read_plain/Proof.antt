@@ -1,15 +1,14 @@
 -- `csv::reader::read_plain` meets its contract. Assumes nothing.
 use mathlib.Core.Path.{sym, _∙_}
-use borrow.Author.Needs.{needs}
 use Rattle.csv.specs.Laws.ReaderSteps.{plain-found}
 use Rattle.csv.proofs.reader.read_plain.Statement.{statement}
 use Rattle.csv.proofs.reader.read_plain.Tie as tie
 
 find-on-requires : tie.Need-find-on-requires
-find-on-requires c κs = search needs
+find-on-requires c κs = tt
 
 ended-requires : tie.Need-ended-requires
-ended-requires c κs = search needs
+ended-requires c κs = tt
 
 returns : tie.Need-returns
 returns c = c .ended .ensures ∙ sym (plain-found _ _ _ (c .before .find-on .ensures))

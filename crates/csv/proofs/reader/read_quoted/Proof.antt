@@ -6,7 +6,6 @@ use native.Mathlib.Omega.{arith}
 use mathlib.Core.List.{[], _∷_}
 use types.Run.{miss}
 use lib.ListN.{length, drop, drop-of-length-le}
-use borrow.Author.Needs.{needs}
 use Rattle.csv.specs.Reader.{quotedRead}
 use Rattle.csv.specs.Laws.ReaderSteps.{quoted-found, quoted-passed, quoted-breaks, quoted-last, quoted-closed, quoted-doubled}
 use Rattle.csv.specs.Laws.Scans.{plain-allowed}
@@ -32,7 +31,7 @@ add-ended : tie.Need-add-ended Inv-loop μ-loop
 add-ended c = omega arith
 
 ended-requires : tie.Need-ended-requires Inv-loop μ-loop
-ended-requires c κs = search needs
+ended-requires c κs = tt
 
 returns : tie.Need-returns Inv-loop μ-loop
 returns c =
@@ -50,7 +49,7 @@ add-ended-2 : tie.Need-add-ended-2 Inv-loop μ-loop
 add-ended-2 c = omega arith
 
 ended-requires-2 : tie.Need-ended-requires-2 Inv-loop μ-loop
-ended-requires-2 c κs = search needs
+ended-requires-2 c κs = tt
 
 returns-2 : tie.Need-returns-2 Inv-loop μ-loop
 returns-2 c =
@@ -75,13 +74,13 @@ loop-again c =
     ∙ quoted-doubled _ _ (step .loop-test .taken) (second .before .if1 .taken) (omega (arith, second .if2 .left)) (c .if3 .left)
 
 is-plain-requires : tie.Need-is-plain-requires Inv-loop μ-loop
-is-plain-requires c κs = search needs
+is-plain-requires c κs = tt
 
 add-find-on : tie.Need-add-find-on Inv-loop μ-loop
 add-find-on c = omega arith
 
 find-on-requires : tie.Need-find-on-requires Inv-loop μ-loop
-find-on-requires c κs = search needs
+find-on-requires c κs = tt
 
 loop-less-2 : tie.Need-loop-less-2 Inv-loop μ-loop
 loop-less-2 c = omega (arith, c .find-on .ensures .behind)
@@ -95,13 +94,13 @@ loop-again-2 c =
     ∙ quoted-found _ _ _ (c .find-on .ensures)
 
 class-of-requires : tie.Need-class-of-requires Inv-loop μ-loop
-class-of-requires c κs = search needs
+class-of-requires c κs = tt
 
 enum-told : tie.Need-enum-told Inv-loop μ-loop
-enum-told c = search needs
+enum-told c = c .match .keys1
 
 broken-requires : tie.Need-broken-requires Inv-loop μ-loop
-broken-requires c κs = search needs
+broken-requires c κs = tt
 
 returns-3 : tie.Need-returns-3 Inv-loop μ-loop
 returns-3 c =
@@ -125,7 +124,7 @@ loop-again-3 c =
     (λ e. miss (0 ∷ 1 ∷ 2 ∷ 3 ∷ 4 ∷ []) 5 tt (rw (met .class-of .ensures ∙ e) at (c .match .keys2)))
 
 broken-requires-2 : tie.Need-broken-requires-2 Inv-loop μ-loop
-broken-requires-2 c κs = search needs
+broken-requires-2 c κs = tt
 
 returns-4 : tie.Need-returns-4 Inv-loop μ-loop
 unfolding quotedRead

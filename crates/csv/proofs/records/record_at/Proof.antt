@@ -8,7 +8,6 @@ use mathlib.Core.List.{_∷_}
 use Prim.Native.Nat.{_+_, _-_, _<_}
 use native.Mathlib.Omega.{arith}
 use lib.ListN.{length, drop, getD, drop-of-length-le}
-use borrow.Author.Needs.{needs}
 use Rattle.csv.specs.Records.{behindEnd, firstFrom, firstRecord}
 use Rattle.csv.specs.Spans.{recordSpan}
 use Rattle.csv.specs.Laws.Spans.{spanOf, bytes-from, record-ended, record-unended, no-end-alone, end-outside}
@@ -27,7 +26,7 @@ unfolding recordSpan firstRecord
 loop-holds c = refl
 
 find-outside-requires : tie.Need-find-outside-requires Inv-loop μ-loop
-find-outside-requires c κs = search needs
+find-outside-requires c κs = tt
 
 -- the record goes on up to the CR, or to the end
 found : (c : tie.After-find-outside Inv-loop μ-loop) → let args = c .before .before .before .before .args in

@@ -6,7 +6,6 @@ use mathlib.Core.Bool.{true, false≢true}
 use Prim.Native.Nat.{_+_, _-_, _≤_, _<_}
 use native.Mathlib.Omega.{arith}
 use lib.ListN.{length}
-use borrow.Author.Needs.{needs}
 use borrow.Author.Tests.{not-false}
 use Rattle.csv.specs.Scans.{Passed}
 use Rattle.csv.specs.Laws.Scans.{one-passed}
@@ -29,7 +28,7 @@ shared-slice-read-is-plain : tie.Need-shared-slice-read-is-plain Inv-loop μ-loo
 shared-slice-read-is-plain c = omega arith
 
 is-plain-requires : tie.Need-is-plain-requires Inv-loop μ-loop
-is-plain-requires c κs = search needs
+is-plain-requires c κs = tt
 
 add-k : tie.Need-add-k Inv-loop μ-loop
 add-k c = omega arith

@@ -2,22 +2,21 @@
 use mathlib.Core.Path.{sym, _∙_}
 use Prim.Native.Nat.{_+_}
 use native.Mathlib.Omega.{arith}
-use borrow.Author.Needs.{needs}
 use Rattle.csv.specs.Laws.Scans.{none-passed, one-passed, found-behind}
 use Rattle.csv.proofs.scans.find.Statement.{statement}
 use Rattle.csv.proofs.scans.find.Tie as tie
 
 shared-slice-read-is-plain : tie.Need-shared-slice-read-is-plain
-shared-slice-read-is-plain c = search needs
+shared-slice-read-is-plain c = omega arith
 
 is-plain-requires : tie.Need-is-plain-requires
-is-plain-requires c κs = search needs
+is-plain-requires c κs = tt
 
 add-find-on : tie.Need-add-find-on
-add-find-on c = search needs
+add-find-on c = omega arith
 
 find-on-requires : tie.Need-find-on-requires
-find-on-requires c κs = search needs
+find-on-requires c κs = tt
 
 returns : tie.Need-returns
 returns c =

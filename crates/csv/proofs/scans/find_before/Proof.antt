@@ -4,7 +4,6 @@ use mathlib.Core.Path.{sym, _∙_}
 use Prim.Native.Nat.{_-_, _≤_, _<_}
 use native.Mathlib.Omega.{arith}
 use lib.ListN.{length}
-use borrow.Author.Needs.{needs}
 use borrow.Author.Tests.{not-true, not-false}
 use Rattle.csv.specs.Scans.{Passed}
 use Rattle.csv.specs.Laws.Scans.{none-passed, one-passed}
@@ -26,7 +25,7 @@ shared-slice-read-is-plain : tie.Need-shared-slice-read-is-plain Inv-loop μ-loo
 shared-slice-read-is-plain c = omega arith
 
 is-plain-requires : tie.Need-is-plain-requires Inv-loop μ-loop
-is-plain-requires c κs = search needs
+is-plain-requires c κs = tt
 
 add-at : tie.Need-add-at Inv-loop μ-loop
 add-at c = omega arith

@@ -3,7 +3,6 @@
 use Prim.Native.Nat.{_+_, _-_, _≤_}
 use native.Mathlib.Omega.{arith}
 use lib.ListN.{length}
-use borrow.Author.Needs.{needs}
 use borrow.Author.Tests.{not-false}
 use Rattle.csv.specs.Scans.{Passed}
 use Rattle.csv.specs.Laws.Scans.{none-passed, both-passed, found-behind}
@@ -44,7 +43,7 @@ loop-again c =
     )
 
 find-before-requires : tie.Need-find-before-requires Inv-loop μ-loop
-find-before-requires c κs = search needs
+find-before-requires c κs = omega arith
 
 returns : tie.Need-returns Inv-loop μ-loop
 returns c =

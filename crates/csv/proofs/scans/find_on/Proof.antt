@@ -7,13 +7,13 @@ use Rattle.csv.proofs.scans.find_on.Statement.{statement}
 use Rattle.csv.proofs.scans.find_on.Tie as tie
 
 sub-if2 : tie.Need-sub-if2
-sub-if2 c = search needs
+sub-if2 c = omega arith
 
 add-end : tie.Need-add-end
-add-end c = search needs
+add-end c = omega arith
 
 find-before-requires : tie.Need-find-before-requires
-find-before-requires c κs = search needs
+find-before-requires c κs = omega arith
 
 returns : tie.Need-returns
 returns c =
@@ -21,7 +21,7 @@ returns c =
     record { behind = near .behind; passed = near .passed; stops = λ h. near .stops (c .if3 .taken) }
 
 find-far-requires : tie.Need-find-far-requires
-find-far-requires c κs = search needs
+find-far-requires c κs = omega arith
 
 returns-2 : tie.Need-returns-2
 returns-2 c =
@@ -33,7 +33,7 @@ returns-2 c =
     (c .find-far .ensures)
 
 find-before-requires-2 : tie.Need-find-before-requires-2
-find-before-requires-2 c κs = search needs
+find-before-requires-2 c κs = omega arith
 
 returns-3 : tie.Need-returns-3
 returns-3 c = search needs

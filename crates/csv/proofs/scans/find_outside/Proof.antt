@@ -6,7 +6,6 @@ use mathlib.Core.Bool.{true, false}
 use Prim.Native.Nat.{ℕ, _-_, _<_}
 use native.Mathlib.Omega.{arith}
 use lib.ListN.{length, getD}
-use borrow.Author.Needs.{needs}
 use borrow.Author.Tests.{ne-eqb}
 use Rattle.csv.specs.Bytes.{quote}
 use Rattle.csv.specs.Scans.{isPlain}
@@ -26,7 +25,7 @@ stopped : (c : tie.After-shared-slice-known Inv-loop μ-loop) (b i : ℕ) → le
 stopped c b i e = not-plain b _ (omega (arith, c .shared-slice-known .given i)) e
 
 find-requires : tie.Need-find-requires Inv-loop μ-loop
-find-requires c κs = search needs
+find-requires c κs = tt
 
 loop-holds : tie.Need-loop-holds Inv-loop μ-loop
 loop-holds c =
@@ -41,13 +40,13 @@ add-find : tie.Need-add-find Inv-loop μ-loop
 add-find c = omega arith
 
 find-requires-2 : tie.Need-find-requires-2 Inv-loop μ-loop
-find-requires-2 c κs = search needs
+find-requires-2 c κs = tt
 
 add-find-2 : tie.Need-add-find-2 Inv-loop μ-loop
 add-find-2 c = omega arith
 
 find-requires-3 : tie.Need-find-requires-3 Inv-loop μ-loop
-find-requires-3 c κs = search needs
+find-requires-3 c κs = tt
 
 -- behind the first quote, and up to the next one
 inside : (c : tie.After-find2 Inv-loop μ-loop) → let args = c .before .before .before .before .before .before .before .args in

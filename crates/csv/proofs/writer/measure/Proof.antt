@@ -11,7 +11,6 @@ use lib.ListN.{length, drop, drop-of-length-le}
 use types.Run.{OneOf}
 use denote.Ref.{now}
 use denote.Enum.Declared.{tagOf}
-use borrow.Author.Needs.{needs}
 use Rattle.csv.specs.declared.ByteClass.{ByteClass}
 use Rattle.csv.specs.declared.ByteClass.the-variants.{Text, Quote, Comma, CarriageReturn, LineFeed, Refused}
 use Rattle.csv.specs.Measures.{valueMeasure}
@@ -76,19 +75,19 @@ shared-slice-read-class-of : tie.Need-shared-slice-read-class-of Inv-loop μ-loo
 shared-slice-read-class-of c = omega arith
 
 class-of-requires : tie.Need-class-of-requires Inv-loop μ-loop
-class-of-requires c κs = search needs
+class-of-requires c κs = tt
 
 enum-told : tie.Need-enum-told Inv-loop μ-loop
-enum-told c = search needs
+enum-told c = c .match .keys1
 
 enum-told-2 : tie.Need-enum-told-2 Inv-loop μ-loop
-enum-told-2 c = search needs
+enum-told-2 c = c .match .keys2
 
 add-quotes : tie.Need-add-quotes Inv-loop μ-loop
 add-quotes c = omega (arith, quote-count-le (now (c .before .before .before .before .before .before .before .args .value)))
 
 enum-told-3 : tie.Need-enum-told-3 Inv-loop μ-loop
-enum-told-3 c = search needs
+enum-told-3 c = c .match .keys4
 
 add-i : tie.Need-add-i Inv-loop μ-loop
 add-i c = omega arith

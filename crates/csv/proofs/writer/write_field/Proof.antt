@@ -7,7 +7,6 @@ use Prim.Native.Nat.{ℕ, _+_, _≤_, _<_}
 use native.Mathlib.Omega.{arith}
 use denote.Ref.{now}
 use lib.ListN.{length, take, drop}
-use borrow.Author.Needs.{needs}
 use borrow.Author.Tests.{le-leb, lt-leb, not-true, not-false}
 use Rattle.csv.specs.declared.Wrote.{Wrote}
 use Rattle.csv.specs.declared.Wrote.the-variants.{Next, Refused, TooLong}
@@ -71,7 +70,7 @@ as-it-is c =
     written-plain (value-of call) (sym (ap (λ (m : ValueMeasure). m .quoted) (call .measure .ensures)) ∙ c .if3 .left)
 
 measure-requires : tie.Need-measure-requires
-measure-requires c κs = search needs
+measure-requires c κs = tt
 
 returns : tie.Need-returns
 unfolding valueMeasure
@@ -83,7 +82,7 @@ returns-2 : tie.Need-returns-2
 returns-2 c = too-long _ _ _ (may-write (c .before)) (omega arith)
 
 sub-space : tie.Need-sub-space
-sub-space c = search needs
+sub-space c = omega arith
 
 add-n : tie.Need-add-n
 add-n c =
@@ -102,13 +101,13 @@ write-quoted-requires : tie.Need-write-quoted-requires
 write-quoted-requires c κs = (in-quotes (c .before .before .before), omega (arith, quoted-length (c .before .before .before)))
 
 add-t9 : tie.Need-add-t9
-add-t9 c = search needs
+add-t9 c = omega arith
 
 add-t10 : tie.Need-add-t10
-add-t10 c = search needs
+add-t10 c = omega arith
 
 same-length : tie.Need-same-length
-same-length c = search needs
+same-length c = c .before .out .given
 
 returns-4 : tie.Need-returns-4
 returns-4 c =
@@ -121,13 +120,13 @@ returns-5 : tie.Need-returns-5
 returns-5 c = too-long _ _ _ (may-write (c .before .before .before)) (omega (arith, ap length (as-it-is (c .before))))
 
 write-plain-requires : tie.Need-write-plain-requires
-write-plain-requires c κs = search needs
+write-plain-requires c κs = omega arith
 
 add-t18 : tie.Need-add-t18
-add-t18 c = search needs
+add-t18 c = omega arith
 
 same-length-2 : tie.Need-same-length-2
-same-length-2 c = search needs
+same-length-2 c = omega arith
 
 returns-6 : tie.Need-returns-6
 returns-6 c =
