@@ -20,7 +20,7 @@
 pub const FIXED: u64 = 0;
 pub const SHORTEST: u64 = 1;
 
-/// What a call with a file is lent, in numbers, and the longest print in bytes.
+/// What a call with a file is lent, in numbers, and bytes that hold every print.
 pub const FILE_TABLE: usize = 768;
 pub const FILE_SPARE: usize = 12;
 pub const LONGEST_PRINT: usize = 6_715;

@@ -1,5 +1,5 @@
--- What the allocation on numbers promises, in terms of cuttings and not of the search: the clauses of its contract. `table` and
--- `spare` are what the lent lists hold on exit.
+-- What the allocation on numbers promises, in terms of cuttings: the clauses of its contract. Only what stopped means speaks of the search.
+-- `table` and `spare` are what the lent lists hold on exit.
 -- Assumes nothing.
 use mathlib.Core.Path.{_≡_}
 use mathlib.Core.Logic.{_≢_, _↔_}
@@ -16,12 +16,13 @@ use Rattle.planning.specs.Capacity.{capacities}
 use Rattle.planning.specs.Cutting.{NotServed, Serves, ShortestTime}
 use Rattle.planning.specs.Modes.{pieceIn, triesOf, unlimitedAt}
 use Rattle.planning.specs.Numbers.{Call, planOf, Accepted}
+use Rattle.planning.specs.Plan.{Within}
 use Rattle.planning.specs.Refusals.{faultNumber}
 use Rattle.planning.specs.Search.{at}
 use Rattle.planning.specs.Sum.{sum}
 
--- Demand 1: the call is answered exactly when it is accepted. A refusal has one of document 01's numbers from 3 to 9 (which one, the
--- clause on the result says), a place other than 0 for 6 alone, and changes nothing lent.
+-- Demand 1: the call is answered exactly when it is accepted. A refusal has one of document 01's numbers on numbers, 3 and 6 to 9 (which one,
+-- the clause on the result says), for 6 a record of the plan, its engines or its deliveries and otherwise place 0, and changes nothing lent.
 unfoldable pub AnsweredExactly : Call → Allocation → Type 0
 AnsweredExactly call r = ((a : Answer) × (r ≡ Answered a)) ↔ Accepted call
 
@@ -30,6 +31,9 @@ TurnedDown call r table spare =
     (refusal : Refusal) → r ≡ Refused refusal
     → (3 ≤ faultNumber (refusal .fault))
     × (faultNumber (refusal .fault) ≤ 9)
+    × (faultNumber (refusal .fault) ≢ 4)
+    × (faultNumber (refusal .fault) ≢ 5)
+    × (faultNumber (refusal .fault) ≡ 6 → Within 1 (1 + length (call .watts) + length (call .energies)) (refusal .place))
     × (faultNumber (refusal .fault) ≢ 6 → refusal .place ≡ 0)
     × (table ≡ call .table)
     × (spare ≡ call .spare)

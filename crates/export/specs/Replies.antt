@@ -25,8 +25,8 @@ wordOf None = 1
 wordOf Stopped = 2
 
 -- an answer with its minutes, its tries and the length of its print
-unfoldable pub answeredBy : Answer → (length : ℕ) → PlanReply
-answeredBy a length = record { word = wordOf (a .outcome); minutes = a .minutes; tries = a .tries; length = length; number = 0; place = 0 }
+unfoldable pub answeredBy : Answer → (n : ℕ) → PlanReply
+answeredBy a n = record { word = wordOf (a .outcome); minutes = a .minutes; tries = a .tries; length = n; number = 0; place = 0 }
 
 -- a refusal with its number and place
 unfoldable pub refusedBy : Refusal → PlanReply

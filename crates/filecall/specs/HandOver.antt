@@ -23,7 +23,7 @@ use Rattle.filecall.specs.Items.{Holding}
 use Rattle.filecall.specs.PlanRead.{planIn, engineColumns, deliveryColumns}
 
 -- the answer with the length of its print, or 9
-unfoldable pub answerIf : (fits : Bool) → Answer → (length : ℕ) → FileAnswer
+unfoldable pub answerIf : (fits : Bool) → Answer → (n : ℕ) → FileAnswer
 answerIf true answer n = Printed answer n
 answerIf false answer n = Refused (record { fault = Space; place = 0 })
 

@@ -4,7 +4,7 @@
 use mathlib.Core.Path.{_≡_, refl, sym, ap, subst, _∙_}
 use mathlib.Core.Logic.{_≢_}
 use mathlib.Core.Bool.{Bool, true, false}
-use mathlib.Core.List.{List, [], _∷_}
+use mathlib.Core.List.{List, [], _∷_, zipWith}
 use mathlib.Core.Option.{Option, none as unrefused, some}
 use Prim.Native.Nat.{ℕ, _+_, _≤_, _<_}
 use lib.ListN.{length}
@@ -22,8 +22,8 @@ use Rattle.planning.specs.Laws.Lent.{refused-keeps}
 use Rattle.planning.specs.Laws.Numbers.{unrefused-iff}
 use Rattle.planning.specs.Laws.Promises.{none-exactly, shortest-time, fixed-time, found-serves, found-spares, stopped-exactly, stopped-tries}
 use Rattle.planning.specs.Modes.{planned, answerOf, outcomeOf, pieceIn}
-use Rattle.planning.specs.Numbers.{Call, Accepted, planOf, engineFault, deliveryFault, refusalOf, answeredBy, allocation, tableOnExit, spareOnExit}
-use Rattle.planning.specs.Plan.{Engine, Delivery}
+use Rattle.planning.specs.Numbers.{Call, Accepted, enginesOf, deliveriesOf, planOf, engineFault, deliveryFault, refusalOf, answeredBy, allocation, tableOnExit, spareOnExit}
+use Rattle.planning.specs.Plan.{Engine, Delivery, Within}
 use Rattle.planning.specs.Refusals.{faultNumber, check, checkEach, _then_}
 use Rattle.planning.specs.Search.{Result, found, none, stopped, at}
 use Rattle.planning.specs.Sum.{sum}
@@ -34,75 +34,107 @@ use Rattle.allocation.specs.Steps.{written}
 
 -- ---- the refusals
 
--- a number from 3 to 9, and a place other than 0 for 6 alone
-record Numbered (refusal : Refusal) : Type 0 where
+-- a number from 3 to 9 but 4 and 5, and a place other than 0 for 6 alone, at most the last record's
+record Numbered (last : ℕ) (refusal : Refusal) : Type 0 where
   least : 3 ≤ faultNumber (refusal .fault)
   most : faultNumber (refusal .fault) ≤ 9
+  kind : faultNumber (refusal .fault) ≢ 4
+  name : faultNumber (refusal .fault) ≢ 5
+  value : faultNumber (refusal .fault) ≡ 6 → Within 1 last (refusal .place)
   placed : faultNumber (refusal .fault) ≢ 6 → refusal .place ≡ 0
 
--- where there is one
-abbrev Numbers : Option Refusal → Type 0
-Numbers o = (refusal : Refusal) → o ≡ some refusal → Numbered refusal
+-- the faults on numbers other than 6, by their numbers
+elsewhere : (last : ℕ) (fault : Fault) (n : ℕ) → faultNumber fault ≡ n → 3 ≤ n → n ≤ 9 → n ≢ 4 → n ≢ 5 → n ≢ 6
+    → Numbered last (record { fault = fault; place = 0 })
+elsewhere last fault n e a b c d f =
+    record {
+      least = rw e a;
+      most = rw e b;
+      kind = rw e c;
+      name = rw e d;
+      value = λ six. absurd (f (sym e ∙ six));
+      placed = λ other. refl;
+    }
 
-check-numbers : (t : Bool) (fault : Fault) (place : ℕ) → Numbered (record { fault = fault; place = place }) → Numbers (check t fault place)
-unfolding check
-check-numbers true fault place n refusal e = let z : _≡_ {A = ℕ} 0 1 = cc in absurd (omega arith)
-check-numbers false fault place n refusal e = subst Numbered (cc) n
+module _ (last : ℕ) where
+  -- where there is one
+  abbrev Numbers : Option Refusal → Type 0
+  Numbers o = (refusal : Refusal) → o ≡ some refusal → Numbered last refusal
 
-then-numbers : {a b : Option Refusal} → Numbers a → Numbers b → Numbers (a then b)
-unfolding _then_
-then-numbers {a = unrefused} m n = n
-then-numbers {a = some refusal} m n = m
+  check-numbers : (t : Bool) (fault : Fault) (place : ℕ) → Numbered last (record { fault = fault; place = place }) → Numbers (check t fault place)
+  unfolding check
+  check-numbers true fault place n refusal e = let z : _≡_ {A = ℕ} 0 1 = cc in absurd (omega arith)
+  check-numbers false fault place n refusal e = subst (Numbered last) (cc) n
 
-each-numbers : {A : Type 0} (one : ℕ → A → Option Refusal) → ((r : ℕ) (x : A) → Numbers (one r x))
-    → (r : ℕ) (xs : List A) → Numbers (checkEach one r xs)
-unfolding checkEach
-each-numbers one n r [] = λ refusal e. let z : _≡_ {A = ℕ} 0 1 = cc in absurd (omega arith)
-each-numbers one n r (x ∷ xs) = then-numbers (n r x) (each-numbers one n (r + 1) xs)
+  then-numbers : {a b : Option Refusal} → Numbers a → Numbers b → Numbers (a then b)
+  unfolding _then_
+  then-numbers {a = unrefused} m n = n
+  then-numbers {a = some refusal} m n = m
 
--- the faults on numbers
-fields : Numbered (record { fault = Fields; place = 0 })
-unfolding faultNumber
-fields = record { least = omega arith; most = omega arith; placed = λ n. refl }
+  each-numbers : {A : Type 0} (one : ℕ → A → Option Refusal) → ((r : ℕ) (x : A) → 1 ≤ r → r ≤ last → Numbers (one r x))
+      → (r : ℕ) (xs : List A) → 1 ≤ r → r + length xs ≤ last + 1 → Numbers (checkEach one r xs)
+  unfolding checkEach
+  each-numbers one n r [] h k = λ refusal e. let z : _≡_ {A = ℕ} 0 1 = cc in absurd (omega arith)
+  each-numbers one n r (x ∷ xs) h k = then-numbers (n r x h (omega arith)) (each-numbers one n (r + 1) xs (omega arith) (omega arith))
 
-no-engine : Numbered (record { fault = NoEngine; place = 0 })
-unfolding faultNumber
-no-engine = record { least = omega arith; most = omega arith; placed = λ n. refl }
+  at-record : (t : Bool) (r : ℕ) → 1 ≤ r → r ≤ last → Numbers (check t Value r)
+  unfolding faultNumber
+  at-record t r h k =
+      check-numbers t Value r
+      (record {
+        least = omega arith;
+        most = omega arith;
+        kind = λ e. omega arith;
+        name = λ e. omega arith;
+        value = λ six. record { least = h; most = k };
+        placed = λ other. absurd (other refl);
+      })
 
-count : Numbered (record { fault = Count; place = 0 })
-unfolding faultNumber
-count = record { least = omega arith; most = omega arith; placed = λ n. refl }
+  engine-numbers : (r : ℕ) (e : Engine) → 1 ≤ r → r ≤ last → Numbers (engineFault r e)
+  unfolding engineFault
+  engine-numbers r e h k = then-numbers (at-record _ r h k) (at-record _ r h k)
 
-space : Numbered (record { fault = Space; place = 0 })
-unfolding faultNumber
-space = record { least = omega arith; most = omega arith; placed = λ n. refl }
+  delivery-numbers : (r : ℕ) (d : Delivery) → 1 ≤ r → r ≤ last → Numbers (deliveryFault r d)
+  unfolding deliveryFault
+  delivery-numbers r d h k = then-numbers (at-record _ r h k) (at-record _ r h k)
 
-value : (place : ℕ) → Numbered (record { fault = Value; place = place })
-unfolding faultNumber
-value place = record { least = omega arith; most = omega arith; placed = λ n. absurd (n refl) }
+  at-zero : (t : Bool) (fault : Fault) (n : ℕ) → faultNumber fault ≡ n → 3 ≤ n → n ≤ 9 → n ≢ 4 → n ≢ 5 → n ≢ 6 → Numbers (check t fault 0)
+  at-zero t fault n e a b c d f = check-numbers t fault 0 (elsewhere last fault n e a b c d f)
 
-engine-numbers : (r : ℕ) (e : Engine) → Numbers (engineFault r e)
-unfolding engineFault
-engine-numbers r e = then-numbers (check-numbers _ Value r (value r)) (check-numbers _ Value r (value r))
+-- no more pairs than the first list has members
+few-pairs : {C : Type 0} (f : ℕ → ℕ → C) (xs ys : List ℕ) → length (zipWith f xs ys) ≤ length xs
+unfolding zipWith
+few-pairs f [] ys = omega arith
+few-pairs f (x ∷ xs) [] = omega arith
+few-pairs f (x ∷ xs) (y ∷ ys) = omega (arith, few-pairs f xs ys)
 
-delivery-numbers : (r : ℕ) (d : Delivery) → Numbers (deliveryFault r d)
-unfolding deliveryFault
-delivery-numbers r d = then-numbers (check-numbers _ Value r (value r)) (check-numbers _ Value r (value r))
-
-refusal-numbers : (call : Call) → Numbers (refusalOf call)
-unfolding refusalOf
+refusal-numbers : (call : Call) → Numbers (1 + length (call .watts) + length (call .energies)) (refusalOf call)
+unfolding refusalOf faultNumber planOf enginesOf deliveriesOf
 refusal-numbers call =
-    then-numbers (check-numbers _ Fields 0 fields)
-    (then-numbers (check-numbers _ Fields 0 fields)
-    (then-numbers (check-numbers _ NoEngine 0 no-engine)
-    (then-numbers (check-numbers _ Count 0 count)
-    (then-numbers (check-numbers _ Count 0 count)
-    (then-numbers (check-numbers _ Space 0 space)
-    (then-numbers (check-numbers _ Space 0 space)
-    (then-numbers (check-numbers _ Value 1 (value 1))
-    (then-numbers (check-numbers _ Value 1 (value 1))
-    (then-numbers (each-numbers engineFault engine-numbers 2 (planOf call .engines))
-    (each-numbers deliveryFault delivery-numbers (2 + length (call .watts)) (planOf call .deliveries)))))))))))
+    let last = 1 + length (call .watts) + length (call .energies) in
+    let fields : (t : Bool) → Numbers last (check t Fields 0) =
+    λ t. at-zero last t Fields 3 refl (omega arith) (omega arith) (λ e. omega arith) (λ e. omega arith) (λ e. omega arith) in
+    let count : (t : Bool) → Numbers last (check t Count 0) =
+    λ t. at-zero last t Count 7 refl (omega arith) (omega arith) (λ e. omega arith) (λ e. omega arith) (λ e. omega arith) in
+    let space : (t : Bool) → Numbers last (check t Space 0) =
+    λ t. at-zero last t Space 9 refl (omega arith) (omega arith) (λ e. omega arith) (λ e. omega arith) (λ e. omega arith) in
+    let no-engine : (t : Bool) → Numbers last (check t NoEngine 0) =
+    λ t. at-zero last t NoEngine 8 refl (omega arith) (omega arith) (λ e. omega arith) (λ e. omega arith) (λ e. omega arith) in
+    let engines = few-pairs {C = Engine} (λ (w f : ℕ). record { watts = w; fuel = f }) (call .watts) (call .fuels) in
+    let deliveries = few-pairs {C = Delivery} (λ (e l : ℕ). record { energy = e; limit = l }) (call .energies) (call .limits) in
+    then-numbers last (fields _)
+    (then-numbers last (fields _)
+    (then-numbers last (no-engine _)
+    (then-numbers last (count _)
+    (then-numbers last (count _)
+    (then-numbers last (space _)
+    (then-numbers last (space _)
+    (then-numbers last (at-record last _ 1 (omega arith) (omega arith))
+    (then-numbers last (at-record last _ 1 (omega arith) (omega arith))
+    (then-numbers last
+    (each-numbers last engineFault (engine-numbers last) 2 (enginesOf (call .watts) (call .fuels)) (omega arith) (omega (arith, engines)))
+    (each-numbers last deliveryFault (delivery-numbers last) (2 + length (call .watts)) (deliveriesOf (call .energies) (call .limits)) (omega arith)
+    (omega (arith, deliveries))))))))))))
 
 -- ---- the result taken apart
 
@@ -186,7 +218,7 @@ module _ (call : Call) {r : Allocation} (result : r ≡ allocation call) where
         let refused = refused-by call (refusalOf call) (sym result ∙ e) in
         let n = refusal-numbers call refusal refused in
         let kept = refused-keeps call refusal refused in
-        (n .least, n .most, n .placed, table-is ∙ kept .1, spare-is ∙ kept .2)
+        (n .least, n .most, n .kind, n .name, n .value, n .placed, table-is ∙ kept .1, spare-is ∙ kept .2)
 
     found-clause : FoundServes call r table spare
     unfolding FoundServes answerOf

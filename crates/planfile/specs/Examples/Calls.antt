@@ -7,7 +7,7 @@ use mathlib.Core.List.{List, [], _∷_, _++_}
 use lib.ListN.{replicate}
 use Rattle.csv.specs.Text.{ascii}
 use Rattle.planning.specs.declared.Fault.{Fault}
-use Rattle.planning.specs.declared.Fault.the-variants.{Size, NoEngine, Space}
+use Rattle.planning.specs.declared.Fault.the-variants.{Size, Fields, NoEngine, Space}
 use Rattle.planning.specs.declared.Outcome.the-variants.{Found, None, Stopped}
 use Rattle.planfile.specs.declared.FileAnswer.the-variants.{Printed, Refused}
 use Rattle.planfile.specs.Examples.Evaluation.{CallExample, calledAll}
@@ -73,8 +73,15 @@ calls =
     ∷ turnedDown Space (lent printedInput 768 13 80)
     -- 9 comes after 8
     ∷ turnedDown NoEngine (lent (ascii "plan,fixed,60,9") 1 1 0)
-    -- 1: a file above 32,768 bytes
+    -- 1: a file above 32,768 bytes; one of just as many is read
     ∷ turnedDown Size (lent (replicate 32769 0x61) 768 12 80)
+    ∷ record {
+      given = lent (replicate 32768 0x61) 768 12 80;
+      answer = Refused (record { fault = Fields; place = 1 });
+      table = replicate 768 7;
+      spare = replicate 12 8;
+      output = replicate 80 9;
+    }
     ∷ []
 
 pub calls-hold : calledAll calls ≡ calls

@@ -11,14 +11,17 @@ turned-down =
     example "" "refused,1,0,0\r\n"
     -- 2: ended by LF only
     ∷ example "plan,fixed,60,9\n" "refused,2,1,0\r\n"
-    -- 3: three fields
+    -- 3: three fields, two, and five
     ∷ example "plan,fixed,60" "refused,3,1,0\r\n"
+    ∷ example "plan,fixed" "refused,3,1,0\r\n"
+    ∷ example "plan,fixed,60,9," "refused,3,1,0\r\n"
     -- 4: an engine as record 1
     ∷ example "engine,E1,5,5" "refused,4,1,0\r\n"
     -- 5: a second engine E1
     ∷ example "plan,fixed,60,9\r\nengine,E1,5,5\r\nengine,E1,5,5" "refused,5,3,0\r\n"
-    -- 6: a leading zero
+    -- 6: a leading zero, and a MODE that is no mode
     ∷ example "plan,fixed,060,9" "refused,6,1,0\r\n"
+    ∷ example "plan,fast,60,9" "refused,6,1,0\r\n"
     -- 7: 13 engine records
     ∷ example "plan,fixed,60,9\r\nengine,E1,5,5\r\nengine,E2,5,5\r\nengine,E3,5,5\r\nengine,E4,5,5\r\nengine,E5,5,5\r\nengine,E6,5,5\r\nengine,E7,5,5\r\nengine,E8,5,5\r\nengine,E9,5,5\r\nengine,E10,5,5\r\nengine,E11,5,5\r\nengine,E12,5,5\r\nengine,E13,5,5" "refused,7,14,0\r\n"
     -- 7: a 65th delivery

@@ -113,6 +113,20 @@ discerning =
       table = [];
       spare = [];
     }
+    -- straight fill goes in file order, not the bulkiest first
+    ∷ record {
+      given = plan Fixed 60 0 (holds 4 ∷ holds 4 ∷ []) (delivery 2 3 ∷ delivery 4 2 ∷ []);
+      answer = record { outcome = Found; minutes = 60; tries = 0 };
+      table = 2 ∷ 0 ∷ 2 ∷ 2 ∷ [];
+      spare = 0 ∷ 2 ∷ [];
+    }
+    -- D tries engines in file order, not the one with the most remaining
+    ∷ record {
+      given = plan Fixed 60 100 (holds 2 ∷ holds 3 ∷ []) (delivery 1 1 ∷ []);
+      answer = record { outcome = Found; minutes = 60; tries = 1 };
+      table = 1 ∷ 0 ∷ [];
+      spare = 1 ∷ 3 ∷ [];
+    }
     -- "59 watts for 1 minute give 0; 60 give 1."
     ∷ record {
       given = plan Fixed 1 9 (engine 59 9 ∷ engine 60 9 ∷ []) [];

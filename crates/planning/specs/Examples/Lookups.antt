@@ -38,7 +38,8 @@ lookups =
     -- 8 before 6, 7 before 6
     ∷ turnedDown [] 0 NoEngine
     ∷ turnedDown (replicate 13 9) 0 Count
-    -- accepted: 12 engines, and both ends of the range
+    -- accepted: 1 engine and 12, and both ends of the range
+    ∷ record { spare = 5 ∷ []; amount = 5; refusal = none }
     ∷ record { spare = replicate 12 0; amount = 1; refusal = none }
     ∷ record { spare = 3 ∷ 4 ∷ []; amount = 1000000000; refusal = none }
     ∷ []

@@ -64,8 +64,8 @@ extreme-or-none related total trans (suc m) f = go (le-or-lt (f m) 0) (extreme-o
     go (inr k) (inr n) = last k (λ i l p. absurd (omega (arith, n i l)))
 
 -- the order turned round
-abbrev pub _≥_ : ℕ → ℕ → Type 0
-_≥_ a b = b ≤ a
+abbrev pub AtLeast : ℕ → ℕ → Type 0
+AtLeast a b = b ≤ a
 
 pub largest-or-none : (m : ℕ) (f : ℕ → ℕ) → Extreme _≤_ m f ⊎ ((i : ℕ) → i < m → f i ≡ 0)
 largest-or-none = extreme-or-none _≤_ total (λ a b c h k. omega arith)
@@ -73,8 +73,8 @@ largest-or-none = extreme-or-none _≤_ total (λ a b c h k. omega arith)
     total : (a b : ℕ) → (a ≤ b) ⊎ (b ≤ a)
     total a b = ⊎-elim inl (λ (l : b < a). inr (omega arith)) (le-or-lt a b)
 
-pub smallest-or-none : (m : ℕ) (f : ℕ → ℕ) → Extreme _≥_ m f ⊎ ((i : ℕ) → i < m → f i ≡ 0)
-smallest-or-none = extreme-or-none _≥_ total (λ a b c h k. omega arith)
+pub smallest-or-none : (m : ℕ) (f : ℕ → ℕ) → Extreme AtLeast m f ⊎ ((i : ℕ) → i < m → f i ≡ 0)
+smallest-or-none = extreme-or-none AtLeast total (λ a b c h k. omega arith)
   where
     total : (a b : ℕ) → (b ≤ a) ⊎ (a ≤ b)
     total a b = ⊎-elim inl (λ (l : a < b). inr (omega arith)) (le-or-lt b a)
@@ -88,11 +88,11 @@ some m f h (inr n) = absurd (omega (arith, sum-zero m f n))
 pub largest : (m : ℕ) (f : ℕ → ℕ) → 0 < sum m f → Extreme _≤_ m f
 largest m f h = some m f h (largest-or-none m f)
 
-pub smallest : (m : ℕ) (f : ℕ → ℕ) → 0 < sum m f → Extreme _≥_ m f
+pub smallest : (m : ℕ) (f : ℕ → ℕ) → 0 < sum m f → Extreme AtLeast m f
 smallest m f h = some m f h (smallest-or-none m f)
 
 pub sum-le-largest : {m : ℕ} {f : ℕ → ℕ} (b : Extreme _≤_ m f) → sum m f ≤ positives m f * f (b .place)
 sum-le-largest {m} {f} b = sum-le-positives-mul m f (f (b .place)) (b .extreme)
 
-pub smallest-le-sum : {m : ℕ} {f : ℕ → ℕ} (b : Extreme _≥_ m f) → positives m f * f (b .place) ≤ sum m f
+pub smallest-le-sum : {m : ℕ} {f : ℕ → ℕ} (b : Extreme AtLeast m f) → positives m f * f (b .place) ≤ sum m f
 smallest-le-sum {m} {f} b = positives-mul-le-sum m f (f (b .place)) (b .extreme)

@@ -11,7 +11,7 @@ use Rattle.planning.specs.Cutting.{Fits}
 use Rattle.planning.specs.Laws.Finite.Decisions.{le-or-lt, at-or-else}
 use Rattle.planning.specs.Laws.Finite.Update.{update, update-other, update-zero-elsewhere}
 use Rattle.planning.specs.Laws.Finite.Sums.{sgn-zero, sgn-pos, sgn-le-one, positives-mono, sum-without, positives-without, positives-mul-le-sum}
-use Rattle.planning.specs.Laws.Finite.Extremes.{Extreme, _≥_, smallest, smallest-le-sum}
+use Rattle.planning.specs.Laws.Finite.Extremes.{Extreme, AtLeast, smallest, smallest-le-sum}
 use Rattle.planning.specs.Laws.Saturation.Moves.{moved-from, moved-no-new, moved-positives, Traded, trade, traded-kept}
 use Rattle.planning.specs.Laws.Saturation.Carry.{Chain, Stays}
 use Rattle.planning.specs.Laws.Saturation.Statement.{MustCut, Saturated, kept-fits}
@@ -108,7 +108,7 @@ module _ {engines deliveries : ℕ} {capacity amount limit : ℕ → ℕ} {j z :
     cuttable : 2 ≤ limit q
     cuttable = must .cuttable q q-below (omega (arith, total))
 
-    q-leaves-place : Extreme _≥_ engines without-b → Saturated engines deliveries capacity amount limit j
+    q-leaves-place : Extreme AtLeast engines without-b → Saturated engines deliveries capacity amount limit j
     unfolding without-b
     q-leaves-place t =
         swap must fits chain b-below e≢b j-on-b q-below j≢q larger off-chain (t .place-below) elsewhere positive small settled
