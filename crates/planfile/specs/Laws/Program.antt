@@ -33,7 +33,8 @@ use Rattle.planfile.specs.Laws.Decimals.{decimal-read}
 use Rattle.planfile.specs.Laws.Holding.{accepted-holds}
 use Rattle.planfile.specs.Laws.Print.{print-reads, refusal-reads}
 use Rattle.planfile.specs.Laws.PrintLength.{number-length, line-length, print-length}
-use Rattle.planfile.specs.Laws.Promises.{call-accepted, file-numbered, front-taken}
+use Rattle.planfile.specs.Laws.Promises.Answered.{front-taken}
+use Rattle.planfile.specs.Laws.Promises.Calls.{call-accepted, file-numbered}
 use Rattle.planfile.specs.Laws.Refusals.{refusal-placed}
 use Rattle.planfile.specs.Laws.Tests.{numeral-unique}
 use Rattle.planfile.specs.Numerals.{decimal}
