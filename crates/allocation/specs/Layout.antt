@@ -11,9 +11,9 @@ use lib.Count.{ones}
 use lib.Dec.{ltb, eqb}
 use lib.ListN.{length}
 use Rattle.planning.specs.Bounds.{mostEnergy, mostLimit}
-use Rattle.planning.specs.Modes.{listed}
+use Rattle.planning.specs.Tables.{listed, at}
 use Rattle.planning.specs.Plan.{Within}
-use Rattle.planning.specs.Search.{State as Document, at, afterLaying, afterCutting}
+use Rattle.planning.specs.Search.{State as Document, afterLaying, afterCutting}
 use Rattle.planning.specs.Sum.{sum}
 use Rattle.allocation.specs.declared.state.State.{State}
 use Rattle.allocation.specs.Sets.{has}

@@ -4,7 +4,7 @@ use mathlib.Core.Path.{_≡_}
 use mathlib.Core.List.{List, _++_}
 use mathlib.Core.Option.{Option, none, some}
 use Prim.Native.Nat.{ℕ, _-_, _≤_}
-use lib.ListN.{length, replicate}
+use lib.ListN.{length}
 use Rattle.planning.specs.declared.Answer.{Answer}
 use Rattle.planning.specs.declared.Mode.{Mode}
 use Rattle.planning.specs.declared.Outcome.the-variants.{Found, None, Stopped}
@@ -16,10 +16,6 @@ use Rattle.allocation.specs.declared.checks.Verdict.{Verdict}
 use Rattle.allocation.specs.declared.checks.Verdict.the-variants.{Accepted, Refused}
 use Rattle.allocation.specs.declared.search.Ended.{Ended}
 use Rattle.allocation.specs.declared.search.Ended.the-variants as ended
-
--- a list made n long with zeros
-unfoldable pub padded : (n : ℕ) → List ℕ → List ℕ
-padded n xs = xs ++ replicate (n - length xs) 0
 
 -- a call with those values, and its plan
 abbrev pub callOn : Mode → (minutes allowance : ℕ) → (watts fuels energies limits table spare : List ℕ) → Call

@@ -14,11 +14,11 @@ use Rattle.planning.specs.declared.Outcome.the-variants.{Found, None, Stopped}
 use Rattle.planning.specs.declared.Refusal.{Refusal}
 use Rattle.planning.specs.Capacity.{capacities}
 use Rattle.planning.specs.Cutting.{NotServed, Serves, ShortestTime}
-use Rattle.planning.specs.Modes.{pieceIn, triesOf, unlimitedAt}
+use Rattle.planning.specs.Modes.{triesOf, unlimitedAt}
+use Rattle.planning.specs.Tables.{pieceIn, at}
 use Rattle.planning.specs.Numbers.{Call, planOf, Accepted}
 use Rattle.planning.specs.Plan.{Within}
 use Rattle.planning.specs.Refusals.{faultNumber}
-use Rattle.planning.specs.Search.{at}
 use Rattle.planning.specs.Sum.{sum}
 
 -- Demand 1: the call is answered exactly when it is accepted. A refusal has one of document 01's numbers on numbers, 3 and 6 to 9 (which one,

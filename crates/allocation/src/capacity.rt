@@ -5,8 +5,8 @@ ghost use Prim.Native.Nat.{ℕ, _≤_, _<_};
 ghost use lib.ListN.{length};
 ghost use Rattle.planning.specs.Capacity.{capacity as capacityOf, capacities as capacitiesOf};
 ghost use Rattle.planning.specs.declared.Mode.the-variants.{Fixed};
-ghost use Rattle.planning.specs.Search.{at};
-ghost use Rattle.allocation.specs.Numbers.{padded, planOn, Usable};
+ghost use Rattle.planning.specs.Tables.{at, padded};
+ghost use Rattle.allocation.specs.Numbers.{planOn, Usable};
 
 // The smaller of fuel and watts × minutes / 60 rounded down.
 pub(crate) fn capacity(watts: u64, fuel: u64, minutes: u64) -> u32

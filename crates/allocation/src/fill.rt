@@ -4,7 +4,7 @@ ghost use mathlib.Core.Path.{_≡_};
 ghost use mathlib.Core.List.{List, _++_};
 ghost use Prim.Native.Nat.{ℕ, _+_, _*_, _≤_, _<_};
 ghost use lib.ListN.{length, take, drop, replicate};
-ghost use Rattle.planning.specs.Modes.{listed};
+ghost use Rattle.planning.specs.Tables.{listed};
 ghost use Rattle.planning.specs.Search.{drawn, undrawn, straightFill};
 ghost use Rattle.allocation.specs.Layout.{remainingAt, restAt, Deliveries};
 

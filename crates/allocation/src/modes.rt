@@ -14,8 +14,9 @@ ghost use Rattle.planning.specs.declared.Mode.{Mode as Modes};
 ghost use Rattle.planning.specs.declared.Mode.the-variants.{Shortest};
 ghost use Rattle.planning.specs.declared.Outcome.the-variants.{Found};
 ghost use Rattle.planning.specs.Modes.{searchAt, bisect as bisected, shortest as shortestOf, planned, answerOf};
-ghost use Rattle.planning.specs.Search.{found, at, total};
-ghost use Rattle.allocation.specs.Numbers.{padded, planOn, Usable, answerBy};
+ghost use Rattle.planning.specs.Search.{found, total};
+ghost use Rattle.planning.specs.Tables.{at, padded};
+ghost use Rattle.allocation.specs.Numbers.{planOn, Usable, answerBy};
 ghost use Rattle.allocation.specs.Sets.{has};
 ghost use Rattle.allocation.specs.Steps.{endedOf, written};
 

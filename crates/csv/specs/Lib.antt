@@ -1,14 +1,7 @@
--- RFC 4180: its bytes and grammar, where records end, the reading, the writer, and the laws that tie them together.
+-- Reading by RFC 4180: what the functions on slices return, and the laws that tie it to the definitions.
 -- Assumes nothing.
-pub mod Bytes
-pub mod Text
-pub mod Grammar
 pub mod Measures
-pub mod Records
 pub mod Spans
 pub mod Scans
 pub mod Reader
-pub mod Fields
-pub mod Writer
 pub mod Laws
-pub mod Examples

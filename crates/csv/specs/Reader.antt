@@ -4,11 +4,11 @@ use mathlib.Core.Bool.{Bool, true, false, cond, _&&_}
 use mathlib.Core.List.{List, [], _∷_}
 use Prim.Native.Nat.{ℕ, _+_}
 use lib.Dec.{eqb}
-use Rattle.csv.specs.declared.ByteClass.{ByteClass}
-use Rattle.csv.specs.declared.ByteClass.the-variants.{Text, Quote, Comma, CarriageReturn, LineFeed, Refused}
+use Rattle.rfc4180.specs.declared.ByteClass.{ByteClass}
+use Rattle.rfc4180.specs.declared.ByteClass.the-variants.{Text, Quote, Comma, CarriageReturn, LineFeed, Refused}
 use Rattle.csv.specs.declared.FieldRead.{FieldRead}
-use Rattle.csv.specs.Bytes.{quote, comma, carriageReturn, lineFeed, classOf}
-use Rattle.csv.specs.Fields.{isText}
+use Rattle.rfc4180.specs.Bytes.{quote, comma, carriageReturn, lineFeed, classOf}
+use Rattle.rfc4180.specs.Fields.{isText}
 use Rattle.csv.specs.Spans.{beforeComma, beforeRecordEnd, withFile, brokenField}
 
 -- a field whose bytes end at a place, by the bytes from there on

@@ -6,8 +6,8 @@ use mathlib.Core.List.{List, [], _∷_}
 use Prim.Native.Nat.{ℕ, suc, _+_, _≤_, _<_}
 use lib.Dec.{eqb}
 use lib.ListN.{length, drop, getD}
-use Rattle.csv.specs.Bytes.{quote, inRange}
-use Rattle.csv.specs.Records.{outsideAfter}
+use Rattle.rfc4180.specs.Bytes.{quote, inRange}
+use Rattle.rfc4180.specs.Records.{outsideAfter}
 
 -- the bytes that a scan passes: from low to high, other than a quote and b
 unfoldable pub isPlain : (low high b x : ℕ) → Bool

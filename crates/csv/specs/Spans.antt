@@ -13,12 +13,9 @@ use Rattle.csv.specs.declared.FieldSpan.{FieldSpan}
 use Rattle.csv.specs.declared.RecordSpan.{RecordSpan}
 use Rattle.csv.specs.declared.Undone.{Undone}
 use Rattle.csv.specs.declared.Undone.the-variants as undoing
-use Rattle.csv.specs.declared.Wrote.{Wrote}
-use Rattle.csv.specs.declared.Wrote.the-variants as writing
-use Rattle.csv.specs.Bytes.{quote}
-use Rattle.csv.specs.Fields.{rawFields, fieldValue}
-use Rattle.csv.specs.Records.{firstRecord}
-use Rattle.csv.specs.Writer.{written, writable}
+use Rattle.rfc4180.specs.Bytes.{quote}
+use Rattle.rfc4180.specs.Fields.{rawFields, fieldValue}
+use Rattle.rfc4180.specs.Records.{firstRecord}
 
 -- the record that begins at a place of a file: its text ends where the first record of the bytes from there on does
 unfoldable pub spanFrom : (from : ℕ) → (textLength : ℕ) → (behind : Option (List ℕ)) → RecordSpan
@@ -100,19 +97,3 @@ undoneOnExitBy (some value) lent = cond (leb (length value) (length lent)) (valu
 
 unfoldable pub undoneOnExit : (raw lent : List ℕ) → List ℕ
 undoneOnExit raw lent = undoneOnExitBy (fieldValue raw) lent
-
--- whether a value fits behind a place of a space when it is written
-unfoldable pub fits : (value : List ℕ) → (space at : ℕ) → Bool
-fits value space at = leb (at + length (written value)) space
-
--- writing a value at a place of an output with that much space, and what the output then holds
-unfoldable pub wrote : (value : List ℕ) → (space at : ℕ) → Wrote
-wrote value space at =
-    cond (writable value) (cond (fits value space at) (writing.Next (at + length (written value))) writing.TooLong) writing.Refused
-
-unfoldable pub wroteOnExit : (value lent : List ℕ) → (at : ℕ) → List ℕ
-wroteOnExit value lent at =
-    cond
-    (writable value && fits value (length lent) at)
-    (take at lent ++ (written value ++ drop (at + length (written value)) lent))
-    lent

@@ -1,18 +1,18 @@
 // The fields of a record's text, and their values.
-use crate::ByteClass;
 use crate::FieldForm;
 use crate::FieldSpan;
 use crate::Undone;
-use crate::bytes::class_of;
 use crate::scans::find_on;
 use crate::scans::find_outside;
 use crate::scans::is_plain;
+use rfc4180::ByteClass;
+use rfc4180::class_of;
 ghost use mathlib.Core.Path.{_≡_};
 ghost use mathlib.Core.Option.{some};
 ghost use Prim.Native.Nat.{_≤_, _<_};
 ghost use lib.ListN.{length, getD};
-ghost use Rattle.csv.specs.Bytes.{quote};
-ghost use Rattle.csv.specs.Fields.{allText, fieldValue};
+ghost use Rattle.rfc4180.specs.Bytes.{quote};
+ghost use Rattle.rfc4180.specs.Fields.{allText, fieldValue};
 ghost use Rattle.csv.specs.Measures.{measured, unquoted};
 ghost use Rattle.csv.specs.Spans.{fieldSpan, formOf, insideOf, undone, undoneOnExit};
 

@@ -1,30 +1,16 @@
-// RFC 4180, the format of CSV files: byte classes, where records and fields end, the values of fields, and the writer. It knows nothing
-// of what the fields mean. The definitions and their laws stand in specs/.
-mod bytes;
+// Reading CSV by RFC 4180: where records and fields end, and the values of fields. It knows nothing of what the fields mean. What RFC 4180
+// says stands in rfc4180; specs/ has what these functions return in its terms.
 mod fields;
 mod reader;
 mod records;
 mod scans;
-mod writer;
 
-pub use bytes::class_of;
 pub use fields::field_at;
 pub use fields::form_of;
 pub use fields::part_of;
 pub use fields::undo;
 pub use reader::field_read;
 pub use records::record_at;
-pub use writer::write_field;
-
-// What a byte is in the grammar of RFC 4180: its terminals, and Refused for a byte that stands nowhere in a file.
-pub enum ByteClass {
-    Text,
-    Quote,
-    Comma,
-    CarriageReturn,
-    LineFeed,
-    Refused,
-}
 
 // Where the text of a record ends, and where the next record begins. A record that no CR LF ends reaches to the end of the file.
 pub struct RecordSpan {
@@ -62,11 +48,4 @@ pub enum Undone {
     Length(usize),
     TooLong,
     Broken,
-}
-
-// What writing a field comes to: the place behind it; that the value holds a byte which RFC 4180 has nowhere; or that it does not fit.
-pub enum Wrote {
-    Next(usize),
-    Refused,
-    TooLong,
 }

@@ -1,9 +1,9 @@
 // Reading a file field by field, each byte once.
-use crate::ByteClass;
 use crate::FieldRead;
-use crate::bytes::class_of;
 use crate::scans::find_on;
 use crate::scans::is_plain;
+use rfc4180::ByteClass;
+use rfc4180::class_of;
 ghost use mathlib.Core.Path.{_≡_};
 ghost use lib.ListN.{drop};
 ghost use Rattle.csv.specs.Spans.{fieldRead, brokenField};

@@ -187,14 +187,14 @@ fn show_written(value: &[u8]) {
     print(b"value ");
     show(value);
     let mut out = [b'.'; 24];
-    let wrote = csv::write_field(value, &mut out, 2);
+    let wrote = lines::write_field(value, &mut out, 2);
     print(b"\noutput ");
     show(&out);
     print(b"\nread back ");
     match wrote {
-        csv::Wrote::Next(next) => show_back(&out[2..next], value.len()),
-        csv::Wrote::Refused => print(b"nothing: refused"),
-        csv::Wrote::TooLong => print(b"nothing: too long"),
+        lines::Wrote::Next(next) => show_back(&out[2..next], value.len()),
+        lines::Wrote::Refused => print(b"nothing: refused"),
+        lines::Wrote::TooLong => print(b"nothing: too long"),
     }
     print(b"\n");
 }

@@ -10,7 +10,7 @@ use Rattle.planning.specs.declared.Fault.the-variants.{Space}
 use Rattle.planning.specs.declared.Outcome.{Outcome}
 use Rattle.planning.specs.declared.Outcome.the-variants.{Found, None, Stopped}
 use Rattle.planning.specs.Bounds.{mostEngines, mostDeliveries}
-use Rattle.planning.specs.Modes.{overFront}
+use Rattle.planning.specs.Tables.{overFront}
 use Rattle.planning.specs.Plan.{All, InRange}
 use Rattle.planfile.specs.declared.FileAnswer.{FileAnswer}
 use Rattle.planfile.specs.declared.FileAnswer.the-variants.{Printed, Refused}

@@ -4,12 +4,12 @@ use mathlib.Core.Path.{_≡_}
 use mathlib.Core.List.{List}
 use Prim.Native.Nat.{ℕ, _+_, _*_, _≤_, _<_}
 use lib.ListN.{length, take, drop}
-use Rattle.planning.specs.Search.{at}
+use Rattle.planning.specs.Tables.{at, listed}
 use Rattle.planfile.specs.FilePlan.{FilePlan}
 use Rattle.planfile.specs.Reading.{Read, accepted, fault, FourFields, readItem}
 use Rattle.filecall.specs.declared.items.Verdict.{Verdict}
 use Rattle.filecall.specs.declared.items.Verdict.the-variants.{Sound, Fault}
-use Rattle.filecall.specs.Parts.{tabulated, nameList}
+use Rattle.filecall.specs.Parts.{nameList}
 
 -- a place for each item in every list, in the names one of 16 bytes, of which so many count as the sizes say
 pub record Columns : Type 0 where
@@ -24,7 +24,7 @@ nameIn c k = take (at (c .sizes) k) (drop (16 * k) (c .names))
 
 -- the first n items, made of their names and numbers
 unfoldable pub itemsIn : {A : Type 0} → (make : List ℕ → ℕ → ℕ → A) → (n : ℕ) → Columns → List A
-itemsIn make n c = tabulated n (λ k. make (nameIn c k) (at (c .firsts) k) (at (c .seconds) k))
+itemsIn make n c = listed n (λ k. make (nameIn c k) (at (c .firsts) k) (at (c .seconds) k))
 
 -- columns with places for the most items, of which the first n are filled
 pub record Holding (n most : ℕ) (c : Columns) : Type 0 where

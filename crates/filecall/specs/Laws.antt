@@ -1,6 +1,5 @@
 -- What is proved about the definitions beside this file.
 pub mod Parts
-pub mod Tabulated
 pub mod Names
 pub mod Words
 pub mod Cuts

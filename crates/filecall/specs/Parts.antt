@@ -4,13 +4,13 @@ use mathlib.Core.Path.{_≡_}
 use mathlib.Core.Bool.{Bool, true, false, cond}
 use mathlib.Core.List.{List, [], _∷_}
 use mathlib.Core.Option.{Option, none, some}
-use Prim.Native.Nat.{ℕ, zero, suc, _*_, _-_, _≤_, _<_, min}
+use Prim.Native.Nat.{ℕ, _*_, _-_, _≤_, _<_, min}
 use lib.ListN.{length, take, drop, getD}
-use Rattle.csv.specs.Fields.{rawFields, fieldValue, fieldValues}
-use Rattle.csv.specs.Records.{firstRecord}
+use Rattle.rfc4180.specs.Fields.{rawFields, fieldValue, fieldValues}
+use Rattle.rfc4180.specs.Records.{firstRecord}
 use Rattle.csv.specs.Spans.{recordSpan}
 use Rattle.planning.specs.Numbers.{within}
-use Rattle.planning.specs.Search.{at}
+use Rattle.planning.specs.Tables.{at, listed}
 use Rattle.filecall.specs.declared.entry.Fields.{Fields}
 use Rattle.filecall.specs.declared.names.Name.{Name}
 use Rattle.filecall.specs.declared.numeral.Ranged.{Ranged}
@@ -45,14 +45,9 @@ pub record IsNameOf (raw : List ℕ) (r : Name) : Type 0 where
   pub most : r .size ≤ 16
   pub named : NamedBy (fieldValue raw) r
 
--- the list f 0, .., f (n - 1)
-unfoldable pub tabulated : {A : Type 0} → (n : ℕ) → (ℕ → A) → List A
-tabulated zero f = []
-tabulated (suc n) f = f 0 ∷ tabulated n (λ k. f (suc k))
-
 -- the first n names of a list that has 16 bytes for each, of which so many count
 unfoldable pub nameList : (n : ℕ) → (names sizes : List ℕ) → List (List ℕ)
-nameList n names sizes = tabulated n (λ k. take (at sizes k) (drop (16 * k) names))
+nameList n names sizes = listed n (λ k. take (at sizes k) (drop (16 * k) names))
 
 -- a record's text that keeps the grammar, and where its fields stand
 pub record IsCut (text : List ℕ) (r : Fields) : Type 0 where

@@ -5,7 +5,7 @@ use mathlib.Core.List.{List}
 use Prim.Native.Nat.{ℕ, _+_, _≤_}
 use lib.Dec.{leb}
 use lib.ListN.{length, drop}
-use Rattle.csv.specs.Records.{furtherRecords}
+use Rattle.rfc4180.specs.Records.{furtherRecords}
 use Rattle.planning.specs.declared.Fault.{Fault}
 use Rattle.planning.specs.declared.Fault.the-variants.{NoEngine}
 use Rattle.planning.specs.declared.Mode.{Mode}

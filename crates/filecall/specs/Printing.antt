@@ -5,14 +5,13 @@ use mathlib.Core.Bool.{true}
 use mathlib.Core.List.{List, [], _∷_, _++_}
 use Prim.Native.Nat.{ℕ, _+_, _*_, _≤_, _<_}
 use lib.ListN.{length, take, drop}
-use Rattle.csv.specs.Bytes.{comma}
-use Rattle.csv.specs.Writer.{writable, writtenLine, writtenFile}
+use Rattle.rfc4180.specs.Bytes.{comma}
+use Rattle.rfc4180.specs.Writer.{writable, writtenLine, writtenFile}
 use Rattle.planning.specs.declared.Answer.{Answer}
 use Rattle.planning.specs.declared.Outcome.{Outcome}
 use Rattle.planning.specs.declared.Outcome.the-variants.{Found, None, Stopped}
-use Rattle.planning.specs.Modes.{pieceIn}
+use Rattle.planning.specs.Tables.{pieceIn, at}
 use Rattle.planning.specs.Plan.{All}
-use Rattle.planning.specs.Search.{at}
 use Rattle.planfile.specs.Numerals.{decimal}
 use Rattle.planfile.specs.Print.{Line, rowLines, pieceLines, answerLine, lineOf}
 use Rattle.filecall.specs.Parts.{nameList}

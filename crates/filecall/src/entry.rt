@@ -5,7 +5,7 @@ ghost use mathlib.Core.List.{List, []};
 ghost use mathlib.Core.Option.{some};
 ghost use Prim.Native.Nat.{ℕ, _≤_, _<_};
 ghost use lib.ListN.{length, getD};
-ghost use Rattle.csv.specs.Fields.{rawFields, fieldValue};
+ghost use Rattle.rfc4180.specs.Fields.{rawFields, fieldValue};
 ghost use Rattle.csv.specs.Spans.{holdsQuote};
 ghost use Rattle.filecall.specs.Parts.{IsCut, CutAt};
 ghost use Rattle.planfile.specs.Reading.{same};

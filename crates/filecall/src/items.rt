@@ -6,7 +6,7 @@ use planning::Fault;
 ghost use mathlib.Core.Path.{_≡_};
 ghost use mathlib.Core.Option.{some};
 ghost use Prim.Native.Nat.{_≤_};
-ghost use Rattle.csv.specs.Fields.{fieldValue};
+ghost use Rattle.rfc4180.specs.Fields.{fieldValue};
 ghost use Rattle.planfile.specs.Reading.{FourFields};
 ghost use Rattle.filecall.specs.Items.{Holding, Adds};
 

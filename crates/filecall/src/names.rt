@@ -4,7 +4,7 @@ ghost use mathlib.Core.Path.{_≡_};
 ghost use mathlib.Core.List.{_++_};
 ghost use Prim.Native.Nat.{ℕ, _+_, _*_, _≤_, _<_};
 ghost use lib.ListN.{length, take, drop};
-ghost use Rattle.planning.specs.Search.{at};
+ghost use Rattle.planning.specs.Tables.{at};
 ghost use Rattle.filecall.specs.Parts.{IsNameOf, nameList};
 ghost use Rattle.planfile.specs.Reading.{nameBytes, same, unused as unusedAmong};
 

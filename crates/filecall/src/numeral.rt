@@ -3,7 +3,7 @@ ghost use mathlib.Core.Path.{_≡_};
 ghost use mathlib.Core.List.{List};
 ghost use mathlib.Core.Option.{some};
 ghost use Prim.Native.Nat.{ℕ, _≤_};
-ghost use Rattle.csv.specs.Fields.{fieldValue};
+ghost use Rattle.rfc4180.specs.Fields.{fieldValue};
 ghost use Rattle.filecall.specs.Parts.{rangedOf, cappedValue};
 
 // A number within its range, or a fault.

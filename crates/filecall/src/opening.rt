@@ -8,7 +8,7 @@ ghost use mathlib.Core.Path.{_≡_};
 ghost use mathlib.Core.List.{List};
 ghost use mathlib.Core.Option.{some};
 ghost use Prim.Native.Nat.{ℕ};
-ghost use Rattle.csv.specs.Fields.{fieldValue};
+ghost use Rattle.rfc4180.specs.Fields.{fieldValue};
 ghost use Rattle.planfile.specs.Reading.{readMode};
 ghost use Rattle.filecall.specs.Opening.{modeRead, openingRead, readOpening};
 ghost use Rattle.filecall.specs.Parts.{IsCut};

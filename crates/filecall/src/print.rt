@@ -1,6 +1,6 @@
 // The planner's print. A function that writes puts its bytes at a place of the output and answers the place behind them.
 use crate::decimal;
-use csv::Wrote;
+use lines::Wrote;
 use planning::Answer;
 use planning::Outcome;
 use planning::Refusal;
@@ -9,9 +9,8 @@ ghost use mathlib.Core.Bool.{true};
 ghost use mathlib.Core.List.{[], _∷_, _++_};
 ghost use Prim.Native.Nat.{_+_, _*_, _≤_, _<_};
 ghost use lib.ListN.{length, take, drop};
-ghost use Rattle.csv.specs.Writer.{writable, written, writtenLine};
-ghost use Rattle.planning.specs.Modes.{overFront};
-ghost use Rattle.planning.specs.Search.{at as entryAt};
+ghost use Rattle.rfc4180.specs.Writer.{writable, written, writtenLine};
+ghost use Rattle.planning.specs.Tables.{overFront, at as entryAt};
 ghost use Rattle.planning.specs.Sum.{positives};
 ghost use Rattle.planfile.specs.declared.FileAnswer.the-variants.{Refused};
 ghost use Rattle.planfile.specs.FileCall.{printLengthBy, printOutputBy};
@@ -37,7 +36,7 @@ fn write_text(text: &[u8], out: &mut [u8], at: usize) -> usize
     requires { ⌜ (writable (now text) ≡ true) × (at + length (withComma (written (now text))) ≤ length (now out)) ⌝ }
     ensures { λ r. ⌜ Put (withComma (written (now (text .entry)))) at (now (out .entry)) r (now (out .exit)) ⌝ }
 {
-    let wrote = csv::write_field(text, out, at);
+    let wrote = lines::write_field(text, out, at);
     match wrote {
         Wrote::Next(to) => write_bytes(b",", out, to),
         // It can be written and there is room, so nothing else is answered.

@@ -9,7 +9,7 @@ use planning::Refusal;
 ghost use mathlib.Core.Path.{_≡_};
 ghost use Prim.Native.Nat.{ℕ, _≤_};
 ghost use lib.ListN.{length, drop};
-ghost use Rattle.csv.specs.Records.{furtherRecords};
+ghost use Rattle.rfc4180.specs.Records.{furtherRecords};
 ghost use Rattle.planfile.specs.Reading.{fault as faultAt, readRecords, readFile};
 ghost use Rattle.filecall.specs.Items.{Holding};
 ghost use Rattle.filecall.specs.Parts.{IsCut};

@@ -8,7 +8,8 @@ use lib.ListN.{length}
 use lib.Dec.{leb, eqb}
 use Rattle.planning.specs.declared.Fault.the-variants.{Space}
 use Rattle.planning.specs.Bounds.{mostCells, mostEngines}
-use Rattle.planning.specs.Modes.{planned, answerOf, tableAfter, sparesAfter, overFront}
+use Rattle.planning.specs.Modes.{planned, answerOf, tableAfter, sparesAfter}
+use Rattle.planning.specs.Tables.{overFront}
 use Rattle.planfile.specs.declared.FileAnswer.{FileAnswer}
 use Rattle.planfile.specs.declared.FileAnswer.the-variants.{Printed, Refused}
 use Rattle.planfile.specs.FilePlan.{FilePlan, unnamed}

@@ -4,8 +4,8 @@ use mathlib.Core.Path.{_≡_}
 use Prim.Native.Nat.{ℕ}
 use mathlib.Core.List.{List, [], _∷_}
 use lib.ListN.{length}
-use Rattle.csv.specs.Grammar.{File}
-use Rattle.csv.specs.Text.{ascii}
+use Rattle.rfc4180.specs.Grammar.{File}
+use Rattle.rfc4180.specs.Text.{ascii}
 use Rattle.planning.specs.declared.Mode.{Mode}
 use Rattle.planning.specs.declared.Mode.the-variants.{Fixed, Shortest}
 use Rattle.planning.specs.Plan.{All, Within, InRange}

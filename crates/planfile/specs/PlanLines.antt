@@ -2,8 +2,8 @@
 -- Assumes nothing.
 use Prim.Native.Nat.{ℕ}
 use mathlib.Core.List.{List, [], _∷_, _++_, map}
-use Rattle.csv.specs.Text.{ascii}
-use Rattle.csv.specs.Writer.{writtenFile}
+use Rattle.rfc4180.specs.Text.{ascii}
+use Rattle.rfc4180.specs.Writer.{writtenFile}
 use Rattle.planfile.specs.FilePlan.{FilePlan, NamedEngine, NamedDelivery}
 use Rattle.planfile.specs.Holding.{modeWord}
 use Rattle.planfile.specs.Numerals.{decimal}

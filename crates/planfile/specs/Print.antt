@@ -3,12 +3,13 @@
 use Prim.Native.Nat.{ℕ, zero, suc}
 use mathlib.Core.List.{List, [], _∷_, _++_}
 use lib.ListN.{length}
-use Rattle.csv.specs.Text.{ascii}
-use Rattle.csv.specs.Writer.{writtenFile}
+use Rattle.rfc4180.specs.Text.{ascii}
+use Rattle.rfc4180.specs.Writer.{writtenFile}
 use Rattle.planning.specs.declared.Outcome.{Outcome}
 use Rattle.planning.specs.declared.Outcome.the-variants.{Found, None, Stopped}
 use Rattle.planning.specs.declared.Refusal.{Refusal}
-use Rattle.planning.specs.Modes.{Planned, outcomeOf, triesOf, pieceIn}
+use Rattle.planning.specs.Modes.{Planned, outcomeOf, triesOf}
+use Rattle.planning.specs.Tables.{pieceIn}
 use Rattle.planning.specs.Refusals.{faultNumber}
 use Rattle.planning.specs.Search.{Result, found, none, stopped}
 use Rattle.planfile.specs.FilePlan.{FilePlan, engineNames, deliveryNames}

@@ -6,8 +6,8 @@ use mathlib.Core.Logic.{_≢_, _↔_}
 use mathlib.Core.List.{List, [], _∷_, List·Memᴰ}
 use Prim.Native.Nat.{ℕ, suc, _+_, _*_, _≤_, _<_}
 use lib.ListN.{length, take, drop, getD}
-use Rattle.csv.specs.Grammar.{File}
-use Rattle.csv.specs.Records.{records}
+use Rattle.rfc4180.specs.Grammar.{File}
+use Rattle.rfc4180.specs.Records.{records}
 use Rattle.planning.specs.declared.Answer.{Answer}
 use Rattle.planning.specs.declared.Fault.the-variants.{Space}
 use Rattle.planning.specs.declared.Mode.the-variants.{Fixed, Shortest}
@@ -16,10 +16,11 @@ use Rattle.planning.specs.declared.Refusal.{Refusal}
 use Rattle.planning.specs.Bounds.{mostCells, mostEngines}
 use Rattle.planning.specs.Capacity.{capacities}
 use Rattle.planning.specs.Cutting.{NotServed, Serves, ShortestTime}
-use Rattle.planning.specs.Modes.{pieceIn, triesOf, unlimitedAt}
+use Rattle.planning.specs.Modes.{triesOf, unlimitedAt}
+use Rattle.planning.specs.Tables.{pieceIn, at, cell}
 use Rattle.planning.specs.Plan.{Within}
 use Rattle.planning.specs.Refusals.{faultNumber}
-use Rattle.planning.specs.Search.{found, at, cell}
+use Rattle.planning.specs.Search.{found}
 use Rattle.planning.specs.Sum.{sum, positives}
 use Rattle.planfile.specs.declared.FileAnswer.{FileAnswer}
 use Rattle.planfile.specs.declared.FileAnswer.the-variants.{Printed, Refused}

@@ -8,9 +8,9 @@ use mathlib.Core.List.{List, [], _∷_, map}
 use mathlib.Core.Option.{Option, none, some}
 use lib.ListN.{length}
 use lib.Dec.{leb, ltb, eqb}
-use Rattle.csv.specs.Fields.{fieldValues}
-use Rattle.csv.specs.Records.{records}
-use Rattle.csv.specs.Text.{ascii}
+use Rattle.rfc4180.specs.Fields.{fieldValues}
+use Rattle.rfc4180.specs.Records.{records}
+use Rattle.rfc4180.specs.Text.{ascii}
 use Rattle.planning.specs.declared.Fault.{Fault}
 use Rattle.planning.specs.declared.Fault.the-variants.{Size, Grammar, Fields, Kind, Name, Value, Count, NoEngine}
 use Rattle.planning.specs.declared.Mode.{Mode}

@@ -11,3 +11,4 @@ pub mod Saturation
 pub mod Search
 pub mod Soundness
 pub mod SpareLookup
+pub mod Tables

@@ -11,3 +11,4 @@ pub mod Refusals
 pub mod Search
 pub mod SpareLookup
 pub mod Sum
+pub mod Tables

@@ -3,8 +3,8 @@
 -- Assumes nothing.
 use Prim.Native.Nat.{ℕ, zero, suc, _+_, _-_, _/_}
 use mathlib.Core.Bool.{Bool, true, false}
-use mathlib.Core.List.{List, [], _∷_, _++_}
-use lib.ListN.{length, drop}
+use mathlib.Core.List.{List, _∷_, _++_}
+use lib.ListN.{length}
 use lib.Dec.{ltb}
 use Rattle.planning.specs.declared.Answer.{Answer}
 use Rattle.planning.specs.declared.Mode.{Mode}
@@ -13,7 +13,8 @@ use Rattle.planning.specs.declared.Outcome.{Outcome}
 use Rattle.planning.specs.declared.Outcome.the-variants.{Found, None, Stopped}
 use Rattle.planning.specs.Capacity.{capacities}
 use Rattle.planning.specs.Plan.{Plan, energies, limits}
-use Rattle.planning.specs.Search.{Result, found, none, stopped, upTo, unlimited, searched, at, cell}
+use Rattle.planning.specs.Search.{Result, found, none, stopped, upTo, unlimited, searched}
+use Rattle.planning.specs.Tables.{at, listed, pieceIn, overFront}
 use Rattle.planning.specs.Sum.{sum}
 
 -- the search for T minutes; "Each search has the full allowance"
@@ -92,26 +93,12 @@ triesOf (stopped tries) = tries
 unfoldable pub answerOf : Planned → Answer
 answerOf a = record { outcome = outcomeOf (a .result); minutes = a .minutes; tries = triesOf (a .result) }
 
--- the list f 0, .., f (n - 1)
-unfoldable pub listed : (n : ℕ) → (ℕ → ℕ) → List ℕ
-listed zero f = []
-listed (suc n) f = f 0 ∷ listed n (λ i. f (suc i))
-
--- the piece of delivery p and engine i in a table of a plan
-unfoldable pub pieceIn : (engines : ℕ) → List ℕ → (p i : ℕ) → ℕ
-pieceIn engines table p i = at table (cell engines p i)
-
 -- "each engine's spare: capacity less its pieces"
 unfoldable pub spares : Plan → (T : ℕ) → (table : List ℕ) → List ℕ
 spares plan T table =
     listed
     (length (plan .engines))
     (λ i. at (capacities plan T) i - sum (length (plan .deliveries)) (λ p. pieceIn (length (plan .engines)) table p i))
-
--- "fills from the front what its plan has, and keeps the others": on numbers the lent list has the plan's own length, so all of it
--- is written
-unfoldable pub overFront : (new lent : List ℕ) → List ℕ
-overFront new lent = new ++ drop (length new) lent
 
 -- "Found writes the piece table (0 where nothing is drawn) and each engine's spare .. None and stopped leave both untouched.":
 -- what the lent piece table and the lent spare list hold afterwards

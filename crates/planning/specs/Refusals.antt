@@ -7,6 +7,8 @@ use mathlib.Core.Option.{Option, none, some}
 use Rattle.planning.specs.declared.Fault.{Fault}
 use Rattle.planning.specs.declared.Fault.the-variants.{Size, Grammar, Fields, Kind, Name, Value, Count, NoEngine, Space}
 use Rattle.planning.specs.declared.Refusal.{Refusal}
+use Rattle.planning.specs.declared.Verdict.{Verdict}
+use Rattle.planning.specs.declared.Verdict.the-variants.{Accepted, Refused}
 
 -- the column "No." of the table, by its column "When"
 unfoldable pub faultNumber : Fault → ℕ
@@ -44,3 +46,8 @@ _then_ none later = later
 unfoldable pub checkEach : {A : Type 0} → (ℕ → A → Option Refusal) → (r : ℕ) → List A → Option Refusal
 checkEach one r [] = none
 checkEach one r (x ∷ xs) = one r x then checkEach one (r + 1) xs
+
+-- what checks come to, as the code returns it
+unfoldable pub verdictOf : Option Refusal → Verdict
+verdictOf none = Accepted
+verdictOf (some refusal) = Refused refusal

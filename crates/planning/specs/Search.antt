@@ -8,13 +8,10 @@
 use Prim.Native.Nat.{ℕ, zero, suc, _+_, _*_, _-_, min}
 use mathlib.Core.Bool.{Bool, true, false, _&&_}
 use mathlib.Core.List.{List, [], _∷_, _++_}
-use lib.ListN.{length, getD, set, replicate}
+use lib.ListN.{length, set, replicate}
 use lib.Dec.{ltb, leb, eqb}
 use Rattle.planning.specs.Sum.{sum, positives}
-
--- what stands at a place of a list of numbers, 0 past its end
-abbrev pub at : List ℕ → ℕ → ℕ
-at xs i = getD xs i 0
+use Rattle.planning.specs.Tables.{at, cell}
 
 -- the sum of a list
 unfoldable pub total : List ℕ → ℕ
@@ -141,10 +138,6 @@ pub data Result : Type 0 where
   found : (tries : ℕ) → (table : List ℕ) → Result
   none : (tries : ℕ) → Result
   stopped : (tries : ℕ) → Result
-
--- the cell of delivery p and engine i in a table with that many engines: "a row for each delivery"
-unfoldable pub cell : (engines p i : ℕ) → ℕ
-cell engines p i = p * engines + i
 
 -- the table without pieces
 abbrev pub noPieces : State → List ℕ

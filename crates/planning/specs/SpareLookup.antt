@@ -14,7 +14,7 @@ use Rattle.planning.specs.declared.Refusal.{Refusal}
 use Rattle.planning.specs.Bounds.{mostEngines, mostEnergy}
 use Rattle.planning.specs.Numbers.{within}
 use Rattle.planning.specs.Refusals.{check, _then_}
-use Rattle.planning.specs.Search.{at}
+use Rattle.planning.specs.Tables.{at}
 
 -- "It refuses by 8, 7, then 6, place 0.": no engine, a 13th engine, an amount out of range
 unfoldable pub lookupRefusal : (spare : List ℕ) → (amount : ℕ) → Option Refusal

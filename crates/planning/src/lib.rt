@@ -1,6 +1,25 @@
-// The types that the planner's answers and contracts speak of, and a fault's number. Their meaning is given in specs/.
+// The types that the planner's answers and contracts speak of, the bounds, and a fault's number. Their meaning is given in specs/.
 ghost use mathlib.Core.Path.{_≡_};
 ghost use Rattle.planning.specs.Refusals.{faultNumber};
+
+// The counts and ranges of document 01 under the names that specs/Bounds gives them.
+pub const MOST_ENGINES: usize = 12;
+
+pub const MOST_DELIVERIES: usize = 64;
+
+pub const MOST_CELLS: usize = MOST_DELIVERIES * MOST_ENGINES;
+
+pub const MOST_MINUTES: u64 = 10080;
+
+pub const MOST_TRIES: u64 = 1000000000;
+
+pub const MOST_WATTS: u64 = 5000000;
+
+pub const MOST_FUEL: u64 = 1000000000;
+
+pub const MOST_ENERGY: u64 = 1000000000;
+
+pub const MOST_LIMIT: u64 = 12;
 
 // MODE of a plan: search the minutes it gives, or look for the shortest time.
 pub enum Mode {
@@ -41,6 +60,35 @@ pub struct Refusal {
     pub place: u64,
 }
 
+// What checks come to: the first refusal, or none.
+pub enum Verdict {
+    Accepted,
+    Refused(Refusal),
+}
+
+// The engines of a plan by value: a column for each figure, filled from the front and 0 behind the count.
+pub struct Engines {
+    pub count: usize,
+    pub watts: [u32; MOST_ENGINES],
+    pub fuel: [u32; MOST_ENGINES],
+}
+
+// The deliveries of a plan by value, alike.
+pub struct Deliveries {
+    pub count: usize,
+    pub energy: [u32; MOST_DELIVERIES],
+    pub limit: [u8; MOST_DELIVERIES],
+}
+
+// A plan by value, as it is behind the checks.
+pub struct Plan {
+    pub mode: Mode,
+    pub minutes: u64,
+    pub allowance: u32,
+    pub engines: Engines,
+    pub deliveries: Deliveries,
+}
+
 // What the allocation on numbers returns.
 pub enum Allocation {
     Answered(Answer),
@@ -69,4 +117,11 @@ pub fn number_of(fault: Fault) -> u64
         Fault::NoEngine => 8,
         Fault::Space => 9,
     }
+}
+
+// A number of 32 bits where 64 are asked for.
+pub fn wide(x: u32) -> u64
+    ensures { λ r. ⌜ r ≡ x ⌝ }
+{
+    x as u64
 }

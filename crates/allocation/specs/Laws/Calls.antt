@@ -20,9 +20,10 @@ use Rattle.planning.specs.Laws.Numbers.{unrefused-iff}
 use Rattle.planning.specs.Laws.Plans.{length-energies, length-capacities}
 use Rattle.planning.specs.Laws.Promises.{found-serves, answered-minutes}
 use Rattle.planning.specs.Laws.Soundness.{plan-length, length-spares}
-use Rattle.planning.specs.Modes.{planned, answerOf, outcomeOf, pieceIn, spares, overFront, tableBy, tableAfter, sparesBy, sparesAfter}
+use Rattle.planning.specs.Modes.{planned, answerOf, outcomeOf, spares, tableBy, tableAfter, sparesBy, sparesAfter}
+use Rattle.planning.specs.Tables.{pieceIn, overFront, at}
 use Rattle.planning.specs.Numbers.{Call, Accepted, planOf, refusalOf, answeredBy, allocation, unlessRefused, tableOnExit, spareOnExit}
-use Rattle.planning.specs.Search.{Result, found, none, stopped, at}
+use Rattle.planning.specs.Search.{Result, found, none, stopped}
 use Rattle.planning.specs.Sum.{sum}
 use Rattle.allocation.specs.declared.checks.Verdict.{Verdict}
 use Rattle.allocation.specs.declared.checks.Verdict.the-variants as verdicts

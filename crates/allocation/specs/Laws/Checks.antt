@@ -20,7 +20,7 @@ use Rattle.planning.specs.Bounds.{mostEngines, mostWatts, mostFuel, mostEnergy,
 use Rattle.planning.specs.Laws.Numbers.{within-iff, check-iff, then-iff}
 use Rattle.planning.specs.Numbers.{Call, enginesOf, deliveriesOf, planOf, within, engineFault, deliveryFault, refusalOf}
 use Rattle.planning.specs.Refusals.{check, checkEach, _then_}
-use Rattle.planning.specs.Search.{at}
+use Rattle.planning.specs.Tables.{at}
 use Rattle.allocation.specs.declared.checks.Verdict.the-variants.{Accepted, Refused}
 use Rattle.allocation.specs.Checks.{countsRefusal, pairsRefusal, valuesRefusal}
 use Rattle.allocation.specs.Numbers.{verdictOf}

@@ -12,11 +12,11 @@ use lib.Dec.{leb, eqb}
 use lib.ListN.{length}
 use borrow.Author.Tests.{lt-ltb}
 use Rattle.planning.specs.Bounds.{mostLimit}
-use Rattle.planning.specs.Laws.Plans.{at-listed, length-listed}
+use Rattle.planning.specs.Laws.Tables.{at-listed, length-listed}
 use Rattle.planning.specs.Laws.Search.Choice.{before, chosen-first}
 use Rattle.planning.specs.Plan.{Within}
-use Rattle.planning.specs.Search.{State as Document, at, bulkier, Choice, noneLeft, chosen, replaces, withDelivery, bulkiestOf}
-use Rattle.planning.specs.Search.{smallest, smallestOf, finished, stepBy, stepWith, stepOf}
+use Rattle.planning.specs.Search.{State as Document, bulkier, Choice, noneLeft, chosen, replaces, withDelivery, bulkiestOf, smallest, smallestOf, finished, stepBy, stepWith, stepOf}
+use Rattle.planning.specs.Tables.{at}
 use Rattle.allocation.specs.declared.choice.Candidate.{Candidate}
 use Rattle.allocation.specs.Laws.Passes.{Ahead, ahead-all, ahead-none, next-member, steady, remainings}
 use Rattle.allocation.specs.Laws.Sets.{has-zero}

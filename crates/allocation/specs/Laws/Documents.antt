@@ -6,7 +6,7 @@ use mathlib.Core.List.{List, _∷_}
 use Prim.Native.Nat.{ℕ, zero, suc, _<_}
 use native.Mathlib.Omega.{arith}
 use lib.ListN.{set}
-use Rattle.planning.specs.Modes.{listed}
+use Rattle.planning.specs.Tables.{listed}
 use Rattle.planning.specs.Search.{State as Document}
 
 pub listed-ext : (n : ℕ) (f g : ℕ → ℕ) → ((i : ℕ) → i < n → g i ≡ f i) → listed n g ≡ listed n f

@@ -9,8 +9,8 @@ use native.Mathlib.Omega.{arith}
 use lib.ListN.{length, take, drop, set, replicate, length-append, length-take, take-append-drop, drop-of-length-le}
 use lib.Seq.{take-all, drop-length, length-take-le, drop-cons, take-at, drop-set-lt, take-set-lt, take-suc-set, getD-take}
 use Rattle.planning.specs.Laws.Soundness.StraightFill.{drawn-length, undrawn-length}
-use Rattle.planning.specs.Modes.{listed}
-use Rattle.planning.specs.Search.{at, drawn, undrawn, straightFill}
+use Rattle.planning.specs.Tables.{listed, at}
+use Rattle.planning.specs.Search.{drawn, undrawn, straightFill}
 
 -- ---- zeros
 

@@ -8,8 +8,7 @@ use lib.Seq.{length-take-le, drop-length, take-length}
 use native.Mathlib.Nat.{sub-zero, zero-sub, suc-sub-suc}
 use native.Mathlib.Numerals.{add-one}
 use native.Mathlib.Omega.{arith}
-use Rattle.planning.specs.Search.{at}
-use Rattle.allocation.specs.Numbers.{padded}
+use Rattle.planning.specs.Tables.{at, padded}
 
 -- the first i numbers of one list, and then another's from there on
 unfoldable pub front : (i : ℕ) → (new old : List ℕ) → List ℕ

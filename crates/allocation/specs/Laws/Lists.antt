@@ -11,11 +11,12 @@ use native.Mathlib.Omega.{arith}
 use Rattle.planning.specs.declared.Mode.{Mode}
 use Rattle.planning.specs.Capacity.{capacity, capacities}
 use Rattle.planning.specs.Laws.Finite.Decisions.{le-or-lt}
-use Rattle.planning.specs.Laws.Plans.{length-capacities, length-listed, at-listed}
-use Rattle.planning.specs.Modes.{pieceIn, spares}
+use Rattle.planning.specs.Laws.Plans.{length-capacities}
+use Rattle.planning.specs.Laws.Tables.{length-listed, at-listed}
+use Rattle.planning.specs.Modes.{spares}
+use Rattle.planning.specs.Tables.{pieceIn, at}
 use Rattle.planning.specs.Numbers.{enginesOf}
 use Rattle.planning.specs.Plan.{Engine, All, EngineInRange}
-use Rattle.planning.specs.Search.{at}
 use Rattle.planning.specs.Sum.{sum}
 use Rattle.allocation.specs.Laws.Paired.{engine-count, delivery-count}
 use Rattle.allocation.specs.Numbers.{planOn}

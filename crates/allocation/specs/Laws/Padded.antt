@@ -7,9 +7,9 @@ use lib.ListN.{length, replicate, length-append, length-replicate}
 use native.Mathlib.Omega.{arith}
 use Rattle.planning.specs.Laws.Finite.Lists.{total-cons}
 use Rattle.planning.specs.Laws.Finite.Sums.{sum-zero}
-use Rattle.planning.specs.Search.{at, total}
+use Rattle.planning.specs.Search.{total}
+use Rattle.planning.specs.Tables.{at, padded}
 use Rattle.allocation.specs.Laws.Filling.{at-zeros}
-use Rattle.allocation.specs.Numbers.{padded}
 
 pub length-padded : (n : ℕ) (xs : List ℕ) → length xs ≤ n → length (padded n xs) ≡ n
 unfolding padded

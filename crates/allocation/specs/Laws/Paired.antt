@@ -10,7 +10,7 @@ use Rattle.planning.specs.Bounds.{mostFuel, mostEnergy, mostLimit}
 use Rattle.planning.specs.Capacity.{capacity}
 use Rattle.planning.specs.Numbers.{enginesOf, deliveriesOf}
 use Rattle.planning.specs.Plan.{Engine, Delivery, All, Within, EngineInRange, DeliveryInRange}
-use Rattle.planning.specs.Search.{at}
+use Rattle.planning.specs.Tables.{at}
 
 -- the deliveries' energies and limits are the lists that they are paired from
 pub energies-paired : (energies limits : List ℕ) → length energies ≡ length limits

@@ -9,9 +9,9 @@ use native.Mathlib.Omega.{arith}
 use lib.Count.{trailingZeros}
 use lib.Pow.{pow-pos}
 use Rattle.planning.specs.Laws.Finite.Decisions.{le-or-lt, at-or-else}
-use Rattle.planning.specs.Laws.Plans.{at-listed}
-use Rattle.planning.specs.Modes.{listed}
-use Rattle.planning.specs.Search.{at, smaller, smallestOf}
+use Rattle.planning.specs.Laws.Tables.{at-listed}
+use Rattle.planning.specs.Tables.{listed, at}
+use Rattle.planning.specs.Search.{smaller, smallestOf}
 use Rattle.allocation.specs.Laws.Sets.{has-zero, has-without-same, has-without-other, least-member, power-le}
 use Rattle.allocation.specs.Layout.{remainingAt}
 use Rattle.allocation.specs.Sets.{has}

@@ -21,11 +21,12 @@ use Rattle.planning.specs.Cutting.{Serves}
 use Rattle.planning.specs.Laws.Lent.{refused-keeps}
 use Rattle.planning.specs.Laws.Numbers.{unrefused-iff}
 use Rattle.planning.specs.Laws.Promises.{none-exactly, shortest-time, fixed-time, found-serves, found-spares, stopped-exactly, stopped-tries}
-use Rattle.planning.specs.Modes.{planned, answerOf, outcomeOf, pieceIn}
+use Rattle.planning.specs.Modes.{planned, answerOf, outcomeOf}
+use Rattle.planning.specs.Tables.{pieceIn, at}
 use Rattle.planning.specs.Numbers.{Call, Accepted, enginesOf, deliveriesOf, planOf, engineFault, deliveryFault, refusalOf, answeredBy, allocation, tableOnExit, spareOnExit}
 use Rattle.planning.specs.Plan.{Engine, Delivery, Within}
 use Rattle.planning.specs.Refusals.{faultNumber, check, checkEach, _then_}
-use Rattle.planning.specs.Search.{Result, found, none, stopped, at}
+use Rattle.planning.specs.Search.{Result, found, none, stopped}
 use Rattle.planning.specs.Sum.{sum}
 use Rattle.allocation.specs.Laws.Calls.{count-engines, count-deliveries, table-written, spare-written, spare-kept}
 use Rattle.allocation.specs.Laws.Modes.{written-kept}

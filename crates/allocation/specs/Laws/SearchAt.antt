@@ -12,13 +12,14 @@ use Rattle.planning.specs.declared.Mode.the-variants.{Fixed}
 use Rattle.planning.specs.Capacity.{capacities}
 use Rattle.planning.specs.Modes.{searchAt}
 use Rattle.planning.specs.Numbers.{enginesOf, deliveriesOf}
-use Rattle.planning.specs.Search.{at, total, none, upTo, searched, unlessTooMuch, searchFrom}
+use Rattle.planning.specs.Search.{total, none, upTo, searched, unlessTooMuch, searchFrom}
+use Rattle.planning.specs.Tables.{at, padded}
 use Rattle.allocation.specs.Layout.{stateOf, Kept, Sized}
 use Rattle.allocation.specs.Laws.Lists.{capacity-count}
 use Rattle.allocation.specs.Laws.Padded.{length-padded, at-padded, total-padded}
 use Rattle.allocation.specs.Laws.Paired.{energies-paired, limits-paired, delivery-ranges, capacities-most}
 use Rattle.allocation.specs.Laws.Start.{firstState, Begins, first-kept, first-sized, first-state}
-use Rattle.allocation.specs.Numbers.{padded, planOn, Usable}
+use Rattle.allocation.specs.Numbers.{planOn, Usable}
 use Rattle.allocation.specs.Sets.{has}
 
 -- the capacities for T minutes

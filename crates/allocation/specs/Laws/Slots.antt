@@ -10,7 +10,7 @@ use native.Mathlib.Omega.{arith}
 use lib.Count.{ones}
 use Rattle.planning.specs.Bounds.{mostEnergy, mostLimit}
 use Rattle.planning.specs.Plan.{Within}
-use Rattle.planning.specs.Search.{at}
+use Rattle.planning.specs.Tables.{at}
 use Rattle.allocation.specs.Layout.{holds, slotRest, slotServed, restAt, limitAt, Deliveries}
 use Rattle.allocation.specs.Laws.Layout.Slots.{holds-used, holds-row, rest-of-slot, served-of-slot, rest-of-none}
 use Rattle.allocation.specs.Sets.{has}

@@ -11,16 +11,14 @@ use borrow.Author.Tests.{ltb-true, ltb-false, lt-ltb}
 use native.Mathlib.Omega.{arith}
 use Rattle.planning.specs.Bounds.{mostEnergy, mostLimit}
 use Rattle.planning.specs.Laws.Finite.Lists.{inside-of}
-use Rattle.planning.specs.Laws.Plans.{length-listed, at-listed}
-use Rattle.planning.specs.Modes.{listed}
+use Rattle.planning.specs.Laws.Tables.{length-listed, at-listed}
+use Rattle.planning.specs.Tables.{listed, at, padded}
 use Rattle.planning.specs.Plan.{Within}
-use Rattle.planning.specs.Search.{at}
 use Rattle.allocation.specs.declared.state.State.{State}
 use Rattle.allocation.specs.Layout.{remainingAt, restAt, limitAt, stateOf, Kept, Sized}
 use Rattle.allocation.specs.Laws.Filling.{at-zeros}
 use Rattle.allocation.specs.Laws.Padded.{length-padded, at-padded}
 use Rattle.allocation.specs.Laws.Sets.{has-zero}
-use Rattle.allocation.specs.Numbers.{padded}
 use Rattle.allocation.specs.Sets.{has}
 
 -- the first state, with those amounts, deliveries and open engines

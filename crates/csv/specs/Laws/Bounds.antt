@@ -10,12 +10,10 @@ use lib.Dec.{leb}
 use lib.ListN.{length, drop, length-append, length-drop}
 use borrow.Author.Tests.{leb-true}
 use Rattle.csv.specs.declared.Undone.the-variants as undoing
-use Rattle.csv.specs.declared.Wrote.the-variants as writing
-use Rattle.csv.specs.Fields.{fieldValue}
-use Rattle.csv.specs.Records.{firstRecord}
-use Rattle.csv.specs.Spans.{spanFrom, recordSpan, undoneBy, undone, fits, wrote}
-use Rattle.csv.specs.Writer.{written, writable}
-use Rattle.csv.specs.Laws.Files.{ending, first-record-bytes}
+use Rattle.rfc4180.specs.Fields.{fieldValue}
+use Rattle.rfc4180.specs.Records.{firstRecord}
+use Rattle.csv.specs.Spans.{spanFrom, recordSpan, undoneBy, undone}
+use Rattle.rfc4180.specs.Laws.Files.{ending, first-record-bytes}
 
 module _ (file : List ℕ) (from : ℕ) (inside : from ≤ length file) where
   record-by : (text : List ℕ) (behind : Option (List ℕ)) → drop from file ≡ text ++ ending behind
@@ -51,22 +49,3 @@ undone-within raw space n e = go (fieldValue raw) e
     go : (o : Option (List ℕ)) → undoing.Length n ≡ undoneBy o space → n ≤ space
     go none e = let z : _≡_ {A = ℕ} 0 1 = cc in absurd (omega arith)
     go (some value) e = by value (leb (length value) space) refl e
-
--- a field is written only where the value can be and fits, and what is returned is the place behind it
-pub wrote-next : (value : List ℕ) (space at next : ℕ) → writing.Next next ≡ wrote value space at
-    → (writable value ≡ true) × (fits value space at ≡ true) × (next ≡ at + length (written value))
-unfolding wrote
-wrote-next value space at next e = go (writable value) (fits value space at) e
-  where
-    go : (t u : Bool) → writing.Next next ≡ cond t (cond u (writing.Next (at + length (written value))) writing.TooLong) writing.Refused
-        → (t ≡ true) × (u ≡ true) × (next ≡ at + length (written value))
-    go true true e = (refl, refl, cc)
-    go true false e = let z : _≡_ {A = ℕ} 0 1 = cc in absurd (omega arith)
-    go false u e = let z : _≡_ {A = ℕ} 0 1 = cc in absurd (omega arith)
-
--- that place is within the output, and not before the one that was asked for
-pub wrote-within : (value : List ℕ) (space at next : ℕ) → writing.Next next ≡ wrote value space at → (at ≤ next) × (next ≤ space)
-unfolding fits
-wrote-within value space at next e =
-    let w = wrote-next value space at next e in
-    (omega (arith, w .2), omega (arith, w .2, leb-true (at + length (written value)) space (w .1)))

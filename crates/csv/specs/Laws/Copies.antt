@@ -9,13 +9,13 @@ use lib.Dec.{eqb}
 use lib.ListN.{length, drop, getD, length-drop}
 use lib.Seq.{take-length, paste}
 use borrow.Author.Tests.{le-leb, eqb-true, eqb-false}
-use Rattle.csv.specs.declared.ByteClass.{ByteClass}
-use Rattle.csv.specs.declared.ByteClass.the-variants.{Text, Quote, Comma, CarriageReturn, LineFeed, Refused}
-use Rattle.csv.specs.Bytes.{quote, classOf}
-use Rattle.csv.specs.Fields.{escapedByte, escapedValue, fieldValue}
+use Rattle.rfc4180.specs.declared.ByteClass.{ByteClass}
+use Rattle.rfc4180.specs.declared.ByteClass.the-variants.{Text, Quote, Comma, CarriageReturn, LineFeed, Refused}
+use Rattle.rfc4180.specs.Bytes.{quote, classOf}
+use Rattle.rfc4180.specs.Fields.{escapedByte, escapedValue, fieldValue}
 use Rattle.csv.specs.Spans.{undoneOnExitBy, undoneOnExit}
-use Rattle.csv.specs.Laws.Classes.{class-means}
-use Rattle.csv.specs.Laws.Spans.{bytes-from}
+use Rattle.rfc4180.specs.Laws.Classes.{class-means}
+use Rattle.rfc4180.specs.Laws.Places.{bytes-from}
 
 -- ---- the first byte of a value
 

@@ -9,15 +9,15 @@ use native.Mathlib.Omega.{arith}
 use lib.ListN.{length, drop, length-append, length-drop}
 use lib.Seq.{drop-drop, drop-append-add}
 use Rattle.csv.specs.declared.FieldRead.{FieldRead}
-use Rattle.csv.specs.Bytes.{comma}
-use Rattle.csv.specs.Records.{outsideAfter, firstRecord}
-use Rattle.csv.specs.Fields.{rawFields, fieldValue, andThen, readAll, fieldValues}
+use Rattle.rfc4180.specs.Bytes.{comma}
+use Rattle.rfc4180.specs.Records.{outsideAfter, firstRecord}
+use Rattle.rfc4180.specs.Fields.{rawFields, fieldValue, andThen, readAll, fieldValues}
 use Rattle.csv.specs.Spans.{beforeComma, beforeRecordEnd, withFile, brokenField, spanFrom, recordSpan, readBy, firstRead, fieldRead}
-use Rattle.csv.specs.Writer.{joined}
-use Rattle.csv.specs.Laws.Fields.{field-sound}
-use Rattle.csv.specs.Laws.Quotes.{prefixed, byte-passed, unbroken-passed, field-unbroken, NonEmpty, raw-non-empty}
-use Rattle.csv.specs.Laws.Records.{joined-raw, raw-more}
-use Rattle.csv.specs.Laws.RecordSpans.{behindText, bytes-cut}
+use Rattle.rfc4180.specs.Writer.{joined}
+use Rattle.rfc4180.specs.Laws.Fields.{field-sound}
+use Rattle.rfc4180.specs.Laws.Quotes.{prefixed, byte-passed, unbroken-passed, field-unbroken, NonEmpty, raw-non-empty}
+use Rattle.rfc4180.specs.Laws.Records.{joined-raw, raw-more}
+use Rattle.rfc4180.specs.Laws.Files.{ending, first-record-bytes}
 
 -- ---- no field of the grammar
 
@@ -110,13 +110,13 @@ module _ (file : List ℕ) (at : ℕ) where
     behind-there = firstRecord (drop at file) .behind
 
     more-cut : (next : List ℕ) (others : List (List ℕ)) → rawFields text-there ≡ raw ∷ next ∷ others
-        → drop at file ≡ raw ++ comma ∷ (joined (next ∷ others) ++ behindText behind-there)
+        → drop at file ≡ raw ++ comma ∷ (joined (next ∷ others) ++ ending behind-there)
     unfolding firstRecord rawFields joined
     more-cut next others e =
         let whole : raw ++ comma ∷ joined (next ∷ others) ≡ text-there = rw e at (joined-raw true text-there) in
-        bytes-cut true (drop at file)
-        ∙ ap (λ (text : List ℕ). text ++ behindText behind-there) (sym whole)
-        ∙ append-assoc raw (comma ∷ joined (next ∷ others)) (behindText behind-there)
+        first-record-bytes (drop at file)
+        ∙ ap (λ (text : List ℕ). text ++ ending behind-there) (sym whole)
+        ∙ append-assoc raw (comma ∷ joined (next ∷ others)) (ending behind-there)
 
     at-end : (read : FieldRead) → rawFields text-there ≡ raw ∷ [] → read .more ≡ false → read .end ≡ at + length raw
         → (text-there ≡ raw → (recordSpan file at .end ≡ read .end) × (recordSpan file at .next ≡ read .next)) → ReadAt file at read

@@ -7,14 +7,14 @@ use mathlib.Core.List.{List, [], _∷_}
 use native.Mathlib.Omega.{arith}
 use lib.ListN.{length, take, drop, getD, drop-of-length-le}
 use borrow.Author.Tests.{le-leb, ne-eqb}
-use Rattle.csv.specs.declared.ByteClass.{ByteClass}
-use Rattle.csv.specs.declared.ByteClass.the-variants.{Text, Quote, Comma, CarriageReturn, LineFeed, Refused}
+use Rattle.rfc4180.specs.declared.ByteClass.{ByteClass}
+use Rattle.rfc4180.specs.declared.ByteClass.the-variants.{Text, Quote, Comma, CarriageReturn, LineFeed, Refused}
 use Rattle.csv.specs.declared.fields.Measured.{Measured}
-use Rattle.csv.specs.Bytes.{quote, classOf}
-use Rattle.csv.specs.Fields.{escapedByte, escapedValue, fieldValue}
+use Rattle.rfc4180.specs.Bytes.{quote, classOf}
+use Rattle.rfc4180.specs.Fields.{escapedByte, escapedValue, fieldValue}
 use Rattle.csv.specs.Measures.{measuredBy, measured}
 use Rattle.csv.specs.Spans.{insideOf, holdsQuote}
-use Rattle.csv.specs.Laws.Classes.{class-means}
+use Rattle.rfc4180.specs.Laws.Classes.{class-means}
 
 -- all bytes but the last
 abbrev pub front : List ℕ → List ℕ

@@ -10,13 +10,13 @@ use lib.Dec.{leb}
 use lib.ListN.{length, take, getD}
 use borrow.Author.Tests.{ne-eqb}
 use Rattle.csv.specs.declared.FieldForm.the-variants.{Broken, Part, Doubled}
-use Rattle.csv.specs.Bytes.{quote, comma, carriageReturn, lineFeed}
-use Rattle.csv.specs.Grammar.{NonEscaped, non-escaped-end, non-escaped-text, Escaped, escaped-end, escaped-text, escaped-comma, escaped-cr, escaped-lf, escaped-quote, Field, field-escaped, field-non-escaped}
-use Rattle.csv.specs.Fields.{allText, fieldValue}
+use Rattle.rfc4180.specs.Bytes.{quote, comma, carriageReturn, lineFeed}
+use Rattle.rfc4180.specs.Grammar.{NonEscaped, non-escaped-end, non-escaped-text, Escaped, escaped-end, escaped-text, escaped-comma, escaped-cr, escaped-lf, escaped-quote, Field, field-escaped, field-non-escaped}
+use Rattle.rfc4180.specs.Fields.{allText, fieldValue}
 use Rattle.csv.specs.Measures.{measuredBy, measured}
 use Rattle.csv.specs.Spans.{insideOf, holdsQuote, formBy, formOf}
-use Rattle.csv.specs.Laws.Classes.{text-no-quote}
-use Rattle.csv.specs.Laws.Fields.{text-only, field-complete, field-sound}
+use Rattle.rfc4180.specs.Laws.Classes.{text-no-quote}
+use Rattle.rfc4180.specs.Laws.Fields.{text-only, field-complete, field-sound}
 use Rattle.csv.specs.Laws.Measures.{front, inside-front}
 
 -- ---- fields without a doubled quote

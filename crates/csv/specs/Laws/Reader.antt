@@ -9,19 +9,19 @@ use native.Mathlib.Omega.{arith}
 use lib.Dec.{eqb}
 use lib.ListN.{length, drop, getD, length-drop}
 use borrow.Author.Tests.{eqb-true, ne-eqb}
-use Rattle.csv.specs.declared.ByteClass.{ByteClass}
-use Rattle.csv.specs.declared.ByteClass.the-variants.{Text, Quote, Comma, CarriageReturn, LineFeed, Refused}
+use Rattle.rfc4180.specs.declared.ByteClass.{ByteClass}
+use Rattle.rfc4180.specs.declared.ByteClass.the-variants.{Text, Quote, Comma, CarriageReturn, LineFeed, Refused}
 use Rattle.csv.specs.declared.FieldRead.{FieldRead}
-use Rattle.csv.specs.Bytes.{quote, comma, carriageReturn, lineFeed, classOf}
-use Rattle.csv.specs.Records.{outsideAfter, behindEnd, endedOr, firstFrom, firstRecord}
-use Rattle.csv.specs.Fields.{cutOr, rawFieldsFrom, rawFields, isText, allText, escapedByte, escapedValue, fieldValue}
+use Rattle.rfc4180.specs.Bytes.{quote, comma, carriageReturn, lineFeed, classOf}
+use Rattle.rfc4180.specs.Records.{outsideAfter, behindEnd, endedOr, firstFrom, firstRecord}
+use Rattle.rfc4180.specs.Fields.{cutOr, rawFieldsFrom, rawFields, isText, allText, escapedByte, escapedValue, fieldValue}
 use Rattle.csv.specs.Reader.{endRead, plainRead, insideRead, quotedRead}
 use Rattle.csv.specs.Spans.{beforeComma, beforeRecordEnd, withFile, brokenField, readBy, firstRead, fieldRead}
-use Rattle.csv.specs.Laws.Classes.{class-means, text-no-quote, text-no-comma, text-no-cr}
-use Rattle.csv.specs.Laws.Fields.{is-text}
-use Rattle.csv.specs.Laws.Quotes.{NonEmpty, raw-non-empty}
+use Rattle.rfc4180.specs.Laws.Classes.{class-means, text-no-quote, text-no-comma, text-no-cr}
+use Rattle.rfc4180.specs.Laws.Fields.{is-text}
+use Rattle.rfc4180.specs.Laws.Quotes.{NonEmpty, raw-non-empty}
 use Rattle.csv.specs.Laws.Scans.{no-end}
-use Rattle.csv.specs.Laws.Spans.{bytes-from}
+use Rattle.rfc4180.specs.Laws.Places.{bytes-from}
 
 -- the first raw field of the rest of a record, which is or is not outside quotes, by what gives its value
 abbrev readFrom : (valueOf : List ℕ → Option (List ℕ)) → (outside : Bool) → (at : ℕ) → (bytes : List ℕ) → FieldRead

@@ -8,17 +8,17 @@ use native.Mathlib.Omega.{arith}
 use lib.Dec.{eqb, ltb}
 use lib.ListN.{length, drop, getD, drop-of-length-le}
 use borrow.Author.Tests.{eqb-true, ne-eqb, eq-eqb, ltb-true, ltb-false}
-use Rattle.csv.specs.declared.ByteClass.{ByteClass}
-use Rattle.csv.specs.declared.ByteClass.the-variants.{Text, Quote, Comma, CarriageReturn, LineFeed, Refused}
+use Rattle.rfc4180.specs.declared.ByteClass.{ByteClass}
+use Rattle.rfc4180.specs.declared.ByteClass.the-variants.{Text, Quote, Comma, CarriageReturn, LineFeed, Refused}
 use Rattle.csv.specs.declared.FieldRead.{FieldRead}
-use Rattle.csv.specs.Bytes.{quote, comma, carriageReturn, lineFeed, classOf}
+use Rattle.rfc4180.specs.Bytes.{quote, comma, carriageReturn, lineFeed, classOf}
 use Rattle.csv.specs.Reader.{endRead, plainRead, insideRead, quotedRead}
 use Rattle.csv.specs.Scans.{isPlain, Found}
 use Rattle.csv.specs.Spans.{beforeComma, beforeRecordEnd, withFile, brokenField}
-use Rattle.csv.specs.Laws.Classes.{class-means}
+use Rattle.rfc4180.specs.Laws.Classes.{class-means}
 use Rattle.csv.specs.Laws.Reader.{isQuote, class-no-quote}
 use Rattle.csv.specs.Laws.Scans.{all-passed, plain-means, plain-text, other-text, plain-allowed}
-use Rattle.csv.specs.Laws.Spans.{bytes-from}
+use Rattle.rfc4180.specs.Laws.Places.{bytes-from}
 
 -- a byte inside quotes that is allowed there and no quote
 allowed-on : (k : ByteClass) → isQuote k ≡ false → (k ≡ Refused → ⊥) → (t : Bool) (on doubled closed : FieldRead) → insideRead k t on doubled closed ≡ on

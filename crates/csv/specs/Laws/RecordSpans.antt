@@ -1,47 +1,17 @@
 -- The records of a file one after the other, by the places at which they begin and end. Assumes nothing.
 use mathlib.Core.Path.{_≡_, refl, ap}
-use mathlib.Core.Bool.{Bool, true, false, cond, _&&_}
+use mathlib.Core.Bool.{_&&_}
 use mathlib.Core.List.{List, [], _∷_, _++_}
-use mathlib.Core.Option.{Option, none, some, Option·none-ne-some, Option·some-inj}
+use mathlib.Core.Option.{Option, none, some}
 use Prim.Native.Nat.{ℕ, zero, suc, _+_, _-_, _<_, _≤_}
 use native.Mathlib.Omega.{arith}
-use lib.Dec.{eqb}
 use lib.ListN.{length, take, drop, length-append, length-drop, drop-of-length-le}
 use lib.Seq.{take-at, drop-drop, drop-append-add}
-use borrow.Author.Tests.{eqb-true}
 use Rattle.csv.specs.declared.RecordSpan.{RecordSpan}
-use Rattle.csv.specs.Bytes.{carriageReturn, lineFeed}
-use Rattle.csv.specs.Records.{outsideAfter, behindEnd, endedOr, firstFrom, firstRecord, further, furtherRecords, records}
+use Rattle.rfc4180.specs.Bytes.{carriageReturn, lineFeed}
+use Rattle.rfc4180.specs.Records.{firstRecord, further, furtherRecords}
+use Rattle.rfc4180.specs.Laws.Files.{ending, first-record-bytes}
 use Rattle.csv.specs.Spans.{spanFrom, recordSpan}
-
--- what stands behind a record's text: nothing, or a record end and the bytes behind it
-abbrev pub behindText : Option (List ℕ) → List ℕ
-behindText none = []
-behindText (some rest) = carriageReturn ∷ lineFeed ∷ rest
-
-end-by : (outside : Bool) (first second : Bool) (b c : ℕ) (rest further : List ℕ) → eqb b carriageReturn ≡ first → eqb c lineFeed ≡ second
-    → cond (outside && first && second) (some rest) none ≡ some further → b ∷ c ∷ rest ≡ carriageReturn ∷ lineFeed ∷ further
-end-by true true true b c rest further p q e = rw (eqb-true b carriageReturn p, eqb-true c lineFeed q, Option·some-inj .0 e)
-end-by true true false b c rest further p q e = absurd (Option·none-ne-some further e)
-end-by true false second b c rest further p q e = absurd (Option·none-ne-some further e)
-end-by false first second b c rest further p q e = absurd (Option·none-ne-some further e)
-
-end-cut : (outside : Bool) (b : ℕ) (rest further : List ℕ) → behindEnd outside (b ∷ rest) ≡ some further → b ∷ rest ≡ carriageReturn ∷ lineFeed ∷ further
-unfolding behindEnd
-end-cut outside b [] further e = absurd (Option·none-ne-some further e)
-end-cut outside b (c ∷ rest) further e = end-by outside _ _ b c rest further refl refl e
-
--- bytes are the text of their first record and what stands behind it
-pub bytes-cut : (outside : Bool) (bytes : List ℕ) → bytes ≡ firstFrom outside bytes .text ++ behindText (firstFrom outside bytes .behind)
-unfolding firstFrom endedOr
-bytes-cut outside [] = refl
-bytes-cut outside (b ∷ rest) = go (behindEnd outside (b ∷ rest)) refl (bytes-cut (outsideAfter outside b) rest)
-  where
-    go : (o : Option (List ℕ)) → behindEnd outside (b ∷ rest) ≡ o
-        → rest ≡ firstFrom (outsideAfter outside b) rest .text ++ behindText (firstFrom (outsideAfter outside b) rest .behind)
-        → b ∷ rest ≡ endedOr o b (firstFrom (outsideAfter outside b) rest) .text ++ behindText (endedOr o b (firstFrom (outsideAfter outside b) rest) .behind)
-    go (some further) e h = end-cut outside b rest further e
-    go none e h = ap (λ (bytes : List ℕ). b ∷ bytes) h
 
 -- where the record that begins at a place of a file stands, and the next one
 pub record Stands (file : List ℕ) (from : ℕ) (here behind : List ℕ) (span : RecordSpan) : Type 0 where
@@ -52,7 +22,7 @@ pub record Stands (file : List ℕ) (from : ℕ) (here behind : List ℕ) (span 
   pub text : take (span .end - from) (drop from file) ≡ here
   pub next : drop (span .next) file ≡ behind
 
-stands-by : (file : List ℕ) (from : ℕ) (text : List ℕ) (behind : Option (List ℕ)) → from ≤ length file → drop from file ≡ text ++ behindText behind
+stands-by : (file : List ℕ) (from : ℕ) (text : List ℕ) (behind : Option (List ℕ)) → from ≤ length file → drop from file ≡ text ++ ending behind
     → Stands file from text (further (record { text = text; behind = behind })) (spanFrom from (length text) behind)
 unfolding spanFrom further
 stands-by file from text none l e =
@@ -85,7 +55,7 @@ pub record-stands : (file : List ℕ) (from : ℕ) → from ≤ length file
     → Stands file from (firstRecord (drop from file) .text) (further (firstRecord (drop from file))) (recordSpan file from)
 unfolding recordSpan firstRecord
 record-stands file from l =
-    stands-by file from (firstRecord (drop from file) .text) (firstRecord (drop from file) .behind) l (bytes-cut true (drop from file))
+    stands-by file from (firstRecord (drop from file) .text) (firstRecord (drop from file) .behind) l (first-record-bytes (drop from file))
 
 -- the further records from a place on, at most n, where there is a byte: the one there and those behind it
 pub records-from : (file : List ℕ) (from n : ℕ) → from < length file → length (drop from file) ≤ n
@@ -107,16 +77,3 @@ records-from file from n l h = go n (drop from file) refl h
       omega (arith, ap length e, length-drop from file, length-drop (recordSpan file from .next) file, stands .onward l),
       unfold furtherRecords in rw (stands .next, e),
     )
-
--- ---- how many records there are
-
-further-count : (n : ℕ) (bytes : List ℕ) → length (furtherRecords n bytes) ≤ n
-unfolding furtherRecords
-further-count zero bytes = omega arith
-further-count (suc n) [] = omega arith
-further-count (suc n) (b ∷ rest) = omega (arith, further-count n (further (firstRecord (b ∷ rest))))
-
--- a file has at most one record more than it has bytes
-pub records-count : (bytes : List ℕ) → length (records bytes) ≤ length bytes + 1
-unfolding records
-records-count bytes = omega (arith, further-count (length bytes) (further (firstRecord bytes)))

@@ -11,16 +11,17 @@ use lib.Dec.{eqb, leb, ltb}
 use lib.ListN.{length, drop, getD, drop-of-length-le, length-drop}
 use lib.Seq.{drop-drop}
 use borrow.Author.Tests.{lt-ltb, le-ltb, le-leb, leb-true, leb-false, eqb-false, ltb-true, ltb-false, eqb-true, eq-eqb, ne-eqb}
-use Rattle.csv.specs.declared.ByteClass.the-variants.{Comma, Refused}
-use Rattle.csv.specs.Bytes.{quote, comma, carriageReturn, classOf}
-use Rattle.csv.specs.Records.{outsideAfter, behindEnd, firstFrom}
-use Rattle.csv.specs.Fields.{rawFieldsFrom, rawFields, isText, allText}
+use Rattle.rfc4180.specs.declared.ByteClass.the-variants.{Comma, Refused}
+use Rattle.rfc4180.specs.Bytes.{quote, comma, carriageReturn, classOf}
+use Rattle.rfc4180.specs.Records.{outsideAfter, behindEnd, firstFrom}
+use Rattle.rfc4180.specs.Fields.{rawFieldsFrom, rawFields, isText, allText}
 use Rattle.csv.specs.Spans.{fieldFrom, fieldSpan}
 use Rattle.csv.specs.Scans.{isPlain, Passed, Found, ahead, FoundOutside}
-use Rattle.csv.specs.Grammar.{TextData, text-20-21, text-23-2B, text-2D-7E}
-use Rattle.csv.specs.Laws.Classes.{text-class, text-range}
-use Rattle.csv.specs.Laws.Fields.{is-text}
-use Rattle.csv.specs.Laws.Spans.{spanOf, bytes-from, record-passed, field-passed, field-ended}
+use Rattle.rfc4180.specs.Grammar.{TextData, text-20-21, text-23-2B, text-2D-7E}
+use Rattle.rfc4180.specs.Laws.Classes.{text-class, text-range}
+use Rattle.rfc4180.specs.Laws.Fields.{is-text}
+use Rattle.csv.specs.Laws.Spans.{spanOf, record-passed, field-passed, field-ended}
+use Rattle.rfc4180.specs.Laws.Places.{bytes-from}
 
 -- what plain says of a byte
 pub plain-means : (low high b x : ℕ) → isPlain low high b x ≡ true → (low ≤ x) × (x ≤ high) × (x ≡ quote → ⊥) × (x ≡ b → ⊥)

@@ -5,22 +5,17 @@ use Prim.Native.Nat.{ℕ, suc, _+_, _-_, _<_, _≤_}
 use mathlib.Core.Bool.{Bool, true, false, cond, _&&_, false≢true}
 use mathlib.Core.Option.{Option, none, some}
 use mathlib.Core.List.{List, [], _∷_}
-use native.Mathlib.Numerals.{add-one}
 use native.Mathlib.Omega.{arith}
 use lib.Dec.{eqb}
-use lib.ListN.{length, take, drop, getD, drop-of-length-le, length-drop}
-use lib.Seq.{drop-cons, drop-drop, take-length}
+use lib.ListN.{length, take, drop, drop-of-length-le, length-drop}
+use lib.Seq.{drop-drop, take-length}
 use borrow.Author.Tests.{eqb-true, ne-eqb}
 use Rattle.csv.specs.declared.RecordSpan.{RecordSpan}
-use Rattle.csv.specs.Bytes.{comma, carriageReturn, lineFeed}
-use Rattle.csv.specs.Records.{FirstRecord, outsideAfter, behindEnd, endedOr, firstFrom}
-use Rattle.csv.specs.Fields.{cutOr, rawFieldsFrom, rawFields}
+use Rattle.rfc4180.specs.Bytes.{comma, carriageReturn, lineFeed}
+use Rattle.rfc4180.specs.Records.{FirstRecord, outsideAfter, behindEnd, endedOr, firstFrom}
+use Rattle.rfc4180.specs.Fields.{cutOr, rawFieldsFrom, rawFields}
 use Rattle.csv.specs.Spans.{spanFrom, fieldFrom, fieldSpan}
-use Rattle.csv.specs.Laws.Quotes.{NonEmpty, raw-non-empty}
-
--- the bytes from a place on: the byte there, and those behind it
-pub bytes-from : (bytes : List ℕ) (at : ℕ) → at < length bytes → drop at bytes ≡ getD bytes at 0 ∷ drop (at + 1) bytes
-bytes-from bytes at h = rw add-one (drop-cons bytes at 0 h)
+use Rattle.rfc4180.specs.Laws.Quotes.{NonEmpty, raw-non-empty}
 
 -- ---- the record
 

@@ -2,7 +2,7 @@
 use mathlib.Core.Path.{sym, _∙_}
 use Prim.Native.Nat.{_≤_}
 use native.Mathlib.Omega.{arith}
-use Rattle.csv.specs.Laws.Bounds.{wrote-within}
+use Rattle.lines.specs.Laws.Bounds.{wrote-within}
 use borrow.Author.Needs.{needs}
 use Rattle.csv_test.proofs.show_written.Statement.{statement}
 use Rattle.csv_test.proofs.show_written.Tie as tie

@@ -9,14 +9,14 @@ use mathlib.Core.Option.{Option, none, some, Option·none-ne-some}
 use lib.ListN.{length, take, drop, getD, set, length-append, length-set, List·getD-append}
 use lib.Seq.{append-snoc, getD-at, getD-set-same, getD-set-other, take-at, drop-at}
 use Rattle.csv.specs.declared.FieldRead.{FieldRead}
-use Rattle.csv.specs.Bytes.{comma}
-use Rattle.csv.specs.Fields.{rawFields, fieldValue, andThen, readAll, fieldValues}
-use Rattle.csv.specs.Records.{firstRecord}
+use Rattle.rfc4180.specs.Bytes.{comma}
+use Rattle.rfc4180.specs.Fields.{rawFields, fieldValue, andThen, readAll, fieldValues}
+use Rattle.rfc4180.specs.Records.{firstRecord}
 use Rattle.csv.specs.Spans.{recordSpan, fieldRead}
 use Rattle.csv.specs.Laws.RecordSpans.{record-stands}
 use Rattle.csv.specs.Laws.FieldReads.{ReadAt, broken-record, field-told}
 use Rattle.planning.specs.Laws.Finite.Decisions.{le-or-lt}
-use Rattle.planning.specs.Search.{at}
+use Rattle.planning.specs.Tables.{at}
 use Rattle.filecall.specs.declared.entry.Fields.{Fields}
 use Rattle.filecall.specs.Parts.{CutAt}
 

@@ -6,10 +6,10 @@ use mathlib.Core.List.{List, _∷_}
 use mathlib.Core.Option.{Option, none, some}
 use Prim.Native.Nat.{ℕ}
 use native.Mathlib.Omega.{arith}
-use Rattle.csv.specs.Bytes.{quote, comma, carriageReturn, lineFeed}
-use Rattle.csv.specs.Fields.{fieldValue}
-use Rattle.csv.specs.Grammar.{Escaped, escaped-end, escaped-text, escaped-comma, escaped-cr, escaped-lf, escaped-quote, Field, field-escaped, field-non-escaped}
-use Rattle.csv.specs.Laws.Fields.{field-sound}
+use Rattle.rfc4180.specs.Bytes.{quote, comma, carriageReturn, lineFeed}
+use Rattle.rfc4180.specs.Fields.{fieldValue}
+use Rattle.rfc4180.specs.Grammar.{Escaped, escaped-end, escaped-text, escaped-comma, escaped-cr, escaped-lf, escaped-quote, Field, field-escaped, field-non-escaped}
+use Rattle.rfc4180.specs.Laws.Fields.{field-sound}
 use Rattle.csv.specs.Laws.Parts.{inside-escaped, inside-text}
 use Rattle.csv.specs.Spans.{insideOf}
 use Rattle.planning.specs.Numbers.{within}

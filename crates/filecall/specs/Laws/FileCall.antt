@@ -8,7 +8,8 @@ use borrow.Author.Tests.{eq-eqb, ne-eqb}
 use Rattle.planning.specs.declared.Fault.the-variants.{Space}
 use Rattle.planning.specs.declared.Refusal.{Refusal}
 use Rattle.planning.specs.Bounds.{mostCells, mostEngines}
-use Rattle.planning.specs.Modes.{overFront, tableAfter, sparesAfter}
+use Rattle.planning.specs.Modes.{tableAfter, sparesAfter}
+use Rattle.planning.specs.Tables.{overFront}
 use Rattle.planfile.specs.declared.FileAnswer.{FileAnswer}
 use Rattle.planfile.specs.declared.FileAnswer.the-variants.{Refused}
 use Rattle.planfile.specs.FileCall.{FileCall, printed, readCall, answerBy, answerToFile, onExit, fileTable, fileSpare, fileOutput}

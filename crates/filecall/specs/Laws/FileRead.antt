@@ -5,7 +5,7 @@ use Prim.Native.Nat.{ℕ, _≤_, _<_}
 use native.Mathlib.Omega.{arith}
 use lib.ListN.{length, drop}
 use Rattle.csv.specs.declared.RecordSpan.{RecordSpan}
-use Rattle.csv.specs.Records.{firstRecord, further, furtherRecords, records}
+use Rattle.rfc4180.specs.Records.{firstRecord, further, furtherRecords, records}
 use Rattle.csv.specs.Laws.RecordSpans.{Stands, record-stands}
 use Rattle.csv.specs.Spans.{recordSpan}
 use Rattle.planning.specs.declared.Fault.{Fault}

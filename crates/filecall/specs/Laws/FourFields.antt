@@ -5,8 +5,8 @@ use mathlib.Core.Option.{none, some}
 use Prim.Native.Nat.{ℕ, suc}
 use native.Mathlib.Omega.{arith}
 use lib.ListN.{length, getD}
-use Rattle.csv.specs.Fields.{rawFields, fieldValue, readAll, fieldValues}
-use Rattle.csv.specs.Laws.Records.{and-then}
+use Rattle.rfc4180.specs.Fields.{rawFields, fieldValue, readAll, fieldValues}
+use Rattle.rfc4180.specs.Laws.Records.{and-then}
 use Rattle.planning.specs.declared.Fault.the-variants.{Grammar}
 use Rattle.planning.specs.declared.Fault.the-variants as what
 use Rattle.planfile.specs.Laws.Records.{fieldList, fields-iff}

@@ -8,7 +8,7 @@ use native.Mathlib.Omega.{arith}
 use lib.Dec.{leb}
 use lib.ListN.{length, take, drop, length-append, length-drop, drop-of-length-le}
 use lib.Seq.{length-take-le}
-use Rattle.csv.specs.Writer.{writable}
+use Rattle.rfc4180.specs.Writer.{writable}
 use Rattle.planning.specs.declared.Allocation.{Allocation}
 use Rattle.planning.specs.declared.Allocation.the-variants.{Answered}
 use Rattle.planning.specs.declared.Allocation.the-variants as allocations
@@ -21,10 +21,12 @@ use Rattle.planning.specs.declared.Refusal.{Refusal}
 use Rattle.planning.specs.Laws.Modes.{planned-searched}
 use Rattle.planning.specs.Laws.Numbers.{unrefused-iff}
 use Rattle.planning.specs.Laws.Soundness.{plan-length}
-use Rattle.planning.specs.Modes.{planned, answerOf, outcomeOf, overFront, listed, spares, tableBy, sparesBy, tableAfter, sparesAfter}
+use Rattle.planning.specs.Laws.Tables.{length-listed, listed-same, map-listed}
+use Rattle.planning.specs.Modes.{planned, answerOf, outcomeOf, spares, tableBy, sparesBy, tableAfter, sparesAfter}
+use Rattle.planning.specs.Tables.{overFront, listed, at, listed}
 use Rattle.planning.specs.Numbers.{Call, Accepted, planOf, enginesOf, deliveriesOf, answeredBy, allocation, unlessRefused, tableOnExit, spareOnExit}
 use Rattle.planning.specs.Plan.{Plan, All, InRange}
-use Rattle.planning.specs.Search.{Result, found, none, stopped, at}
+use Rattle.planning.specs.Search.{Result, found, none, stopped}
 use Rattle.allocation.specs.Numbers.{callOn}
 use Rattle.planfile.specs.declared.FileAnswer.{FileAnswer}
 use Rattle.planfile.specs.declared.FileAnswer.the-variants.{Printed, Refused}
@@ -39,8 +41,7 @@ use Rattle.planfile.specs.Reading.{accepted, _>>=_, fault, require}
 use Rattle.filecall.specs.HandOver.{answerIf, numbersIf, bytesIf, planBy, UsablePlan, withSpace}
 use Rattle.filecall.specs.Items.{Columns, itemsIn, Holding}
 use Rattle.filecall.specs.Laws.PlanRead.{item-names}
-use Rattle.filecall.specs.Laws.Tabulated.{length-tabulated, tabulated-same, map-tabulated}
-use Rattle.filecall.specs.Parts.{tabulated, nameList}
+use Rattle.filecall.specs.Parts.{nameList}
 use Rattle.filecall.specs.Laws.Printing.{print-by-names}
 use Rattle.filecall.specs.PlanRead.{planIn, engineColumns, deliveryColumns}
 use Rattle.filecall.specs.Printing.{Names, printBytes}
@@ -50,8 +51,8 @@ use Rattle.filecall.specs.declared.reading.Plan.{Plan as ByValue}
 
 -- two columns paired, from the front
 paired : {A : Type 0} (pair : ℕ → ℕ → A) (n : ℕ) (firsts seconds : List ℕ) → n ≤ length firsts → n ≤ length seconds
-    → zipWith pair (take n firsts) (take n seconds) ≡ tabulated n (λ k. pair (at firsts k) (at seconds k))
-unfolding tabulated zipWith
+    → zipWith pair (take n firsts) (take n seconds) ≡ listed n (λ k. pair (at firsts k) (at seconds k))
+unfolding listed zipWith
 paired pair zero firsts seconds l m = refl
 paired pair (suc n) [] seconds l m = absurd (omega arith)
 paired pair (suc n) (a ∷ firsts) [] l m = absurd (omega arith)
@@ -63,7 +64,7 @@ unnamed-items : {A B : Type 0} (make : List ℕ → ℕ → ℕ → A) (content 
 unfolding itemsIn
 unnamed-items make content pair same n most c h =
     paired pair n (c .firsts) (c .seconds) (omega (arith, h .room, h .firsts)) (omega (arith, h .room, h .seconds))
-    ∙ sym (map-tabulated content n _ ∙ tabulated-same n _ _ (λ k l. same _ _ _))
+    ∙ sym (map-listed content n _ ∙ listed-same n _ _ (λ k l. same _ _ _))
 
 module _ (mode : Mode) (minutes allowance engines deliveries : ℕ) (e d : Columns) (p : Holding engines 12 e) (q : Holding deliveries 64 d)
     (table spare : List ℕ) where
@@ -116,11 +117,6 @@ module _ (mode : Mode) (minutes allowance engines deliveries : ℕ) (e d : Colum
 front-whole : (new lent : List ℕ) → length lent ≡ length new → overFront new lent ≡ new
 unfolding overFront
 front-whole new lent e = ap (λ (rest : List ℕ). new ++ rest) (drop-of-length-le lent {i = length new} (omega arith)) ∙ append-nil new
-
-length-listed : (n : ℕ) (g : ℕ → ℕ) → length (listed n g) ≡ n
-unfolding listed
-length-listed zero g = refl
-length-listed (suc n) g = ap suc (length-listed n (λ i. g (suc i)))
 
 -- what was found for tables of the plan's own lengths is handed over as if the tables lent had been written
 module _ (plan : Plan) (ranges : InRange plan) where
@@ -254,7 +250,7 @@ module _ {p : ByValue} (u : UsablePlan p) where
   -- as many engines and deliveries as are counted
   plan-counts : (length ((unnamed held) .engines) ≡ p .engines) × (length ((unnamed held) .deliveries) ≡ p .deliveries)
   unfolding itemsIn
-  plan-counts = (engine-count held ∙ length-tabulated (p .engines) _, delivery-count held ∙ length-tabulated (p .deliveries) _)
+  plan-counts = (engine-count held ∙ length-listed (p .engines) _, delivery-count held ∙ length-listed (p .deliveries) _)
 
   module _ (own : List ℕ) (cells : length own ≡ p .deliveries * p .engines) where
     -- a table of the plan's own length holds what is found, and keeps its length

@@ -9,10 +9,10 @@ use native.Mathlib.Omega.{arith}
 use lib.ListN.{length, take, drop, set, length-append, length-drop, length-set, take-append-drop}
 use lib.Seq.{length-take-le, drop-append-le, take-append-le, drop-at, getD-set-same, getD-set-other}
 use borrow.Author.Tests.{lt-ltb, le-ltb}
-use Rattle.csv.specs.Fields.{fieldValue}
+use Rattle.rfc4180.specs.Fields.{fieldValue}
 use Rattle.planning.specs.declared.Fault.the-variants.{Count, Name, Value}
 use Rattle.planning.specs.Laws.Finite.Decisions.{le-or-lt}
-use Rattle.planning.specs.Search.{at}
+use Rattle.planning.specs.Tables.{at}
 use Rattle.planfile.specs.FilePlan.{FilePlan}
 use Rattle.planfile.specs.Reading.{Read, accepted, _>>=_, fault, require, FourFields, soundName, unused, readItem}
 use Rattle.filecall.specs.declared.names.Name.{Name as NameField}

@@ -13,16 +13,16 @@ use lib.ListN.{length, take, drop, getD, drop-of-length-le}
 use lib.Seq.{drop-cons, take-append-seam}
 use borrow.Author.Tests.{eq-eqb, ne-eqb, le-leb, leb-true}
 use Rattle.csv.specs.declared.Undone.the-variants.{Length, TooLong}
-use Rattle.csv.specs.Fields.{fieldValue}
+use Rattle.rfc4180.specs.Fields.{fieldValue}
 use Rattle.csv.specs.Spans.{undoneBy, undone, undoneOnExitBy, undoneOnExit}
 use Rattle.planning.specs.Laws.Finite.Decisions.{le-or-lt}
-use Rattle.planning.specs.Search.{at}
+use Rattle.planning.specs.Tables.{at}
 use Rattle.filecall.specs.declared.names.Name.{Name}
 use Rattle.planfile.specs.Bounds.{mostNameBytes, leastNameByte, mostNameByte}
 use Rattle.filecall.specs.Parts.{NamedBy, nameList}
 use Rattle.planfile.specs.Laws.Tests.{same-iff}
 use Rattle.planfile.specs.Reading.{same, nameBytes, soundName, unused}
-use Rattle.filecall.specs.Laws.Tabulated.{length-tabulated, tabulated-at}
+use Rattle.planning.specs.Laws.Tables.{length-listed, listed-at}
 use Rattle.filecall.specs.Laws.Parts.{within-below, within-above, within-both}
 
 -- ---- two texts
@@ -97,11 +97,11 @@ module _ (name : List ℕ) (names : List (List ℕ)) (k : ℕ) where
 module _ (n : ℕ) (names sizes : List ℕ) where
   pub names-count : length (nameList n names sizes) ≡ n
   unfolding nameList
-  names-count = length-tabulated n _
+  names-count = length-listed n _
 
   pub name-listed : (k : ℕ) → k < n → getD (nameList n names sizes) k [] ≡ take (at sizes k) (drop (16 * k) names)
   unfolding nameList
-  name-listed k l = tabulated-at n k _ [] l
+  name-listed k l = listed-at n k _ [] l
 
 -- ---- the name in a raw field
 

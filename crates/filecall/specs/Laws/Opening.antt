@@ -3,7 +3,7 @@ use mathlib.Core.Path.{_≡_, _∙_}
 use mathlib.Core.Bool.{true, false}
 use mathlib.Core.List.{List}
 use Prim.Native.Nat.{ℕ}
-use Rattle.csv.specs.Text.{ascii}
+use Rattle.rfc4180.specs.Text.{ascii}
 use Rattle.planning.specs.declared.Fault.{Fault}
 use Rattle.planning.specs.declared.Fault.the-variants.{Kind, Value}
 use Rattle.planning.specs.declared.Mode.{Mode}

@@ -5,7 +5,7 @@ use Prim.Native.Nat.{ℕ, zero, suc, _+_, _*_, _≤_, _<_}
 use native.Mathlib.Omega.{arith}
 use lib.ListN.{length, drop, drop-of-length-le}
 use borrow.Author.Tests.{le-leb, lt-leb}
-use Rattle.csv.specs.Records.{firstRecord, further, furtherRecords}
+use Rattle.rfc4180.specs.Records.{firstRecord, further, furtherRecords}
 use Rattle.csv.specs.Laws.RecordSpans.{Stands, record-stands, records-from}
 use Rattle.csv.specs.Spans.{recordSpan}
 use Rattle.planning.specs.declared.Fault.{Fault}
@@ -20,9 +20,9 @@ use Rattle.filecall.specs.declared.reading.Items.{Items}
 use Rattle.filecall.specs.declared.reading.Plan.{Plan}
 use Rattle.filecall.specs.declared.reading.Verdict.the-variants.{Accepted}
 use Rattle.filecall.specs.Items.{Columns, Holding, itemsIn}
-use Rattle.filecall.specs.Laws.Tabulated.{length-tabulated}
+use Rattle.planning.specs.Laws.Tables.{length-listed}
 use Rattle.filecall.specs.Laws.PlanRead.{records-refused, records-added}
-use Rattle.filecall.specs.Parts.{tabulated}
+use Rattle.planning.specs.Tables.{listed}
 use Rattle.filecall.specs.PlanRead.{planIn, readText, engineColumns, deliveryColumns, AddsRecord, ReadBy, requireEngine, refusedItems, ItemsBy, ItemsRead}
 
 -- what the records from a place on are read as: those from the start are read as those from here, behind the columns so far
@@ -42,7 +42,7 @@ empty-columns most names sizes firsts seconds a b c d =
     record { room = omega arith; names = a; sizes = b; firsts = c; seconds = d; short = λ k l. absurd (omega arith) }
 
 pub pending-start : (file : List ℕ) (start : ℕ) (e d : Columns) → Holding 0 mostEngines e → Holding 0 mostDeliveries d → Pending file start 0 0 e d start 2
-unfolding itemsIn tabulated
+unfolding itemsIn listed
 pending-start file start e d p q =
     record { engineColumns = p; deliveryColumns = q; few = omega arith; left = λ mode minutes allowance n l. (n, l, refl) }
 
@@ -135,7 +135,7 @@ module _ (m : Read FilePlan) (mode : Mode) (minutes allowance engines deliveries
     (read : m ≡ accepted (planIn mode minutes allowance engines deliveries e d)) where
   engine-count : length (planIn mode minutes allowance engines deliveries e d .engines) ≡ engines
   unfolding itemsIn
-  engine-count = length-tabulated engines _
+  engine-count = length-listed engines _
 
   engine-missing : engines ≡ 0 → requireEngine m ≡ fault NoEngine 0
   unfolding requireEngine _>>=_ require fault

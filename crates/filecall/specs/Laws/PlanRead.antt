@@ -5,7 +5,7 @@ use mathlib.Core.List.{List, [], _∷_, _++_, map, map-id}
 use Prim.Native.Nat.{ℕ, _+_}
 use native.Mathlib.Numerals.{add-one}
 use lib.ListN.{length-map}
-use Rattle.csv.specs.Text.{ascii}
+use Rattle.rfc4180.specs.Text.{ascii}
 use Rattle.planning.specs.declared.Fault.{Fault}
 use Rattle.planning.specs.declared.Fault.the-variants.{Kind}
 use Rattle.planning.specs.Bounds.{mostEngines, mostDeliveries, mostWatts, mostFuel, mostEnergy, mostLimit}
@@ -15,7 +15,7 @@ use Rattle.filecall.specs.declared.items.Verdict.the-variants as verdict
 use Rattle.filecall.specs.declared.reading.Added.the-variants as added
 use Rattle.filecall.specs.Items.{Columns, nameIn, itemsIn, Holding, Appended, readNamed, Adds}
 use Rattle.filecall.specs.Laws.FourFields.{Valued}
-use Rattle.filecall.specs.Laws.Tabulated.{tabulated-same, tabulated-last, map-tabulated}
+use Rattle.planning.specs.Laws.Tables.{listed-same, listed-last, map-listed}
 use Rattle.filecall.specs.Parts.{nameList}
 use Rattle.filecall.specs.PlanRead.{readText, AddsRecord}
 
@@ -28,16 +28,16 @@ module _ {A : Type 0} (make : List ℕ → ℕ → ℕ → A) where
   unfolding itemsIn
   items-appended {n} {text} {a} {b} {before} {after} h =
       rw (add-one n)
-      (tabulated-last n _
+      (listed-last n _
       ∙ ap₂ (λ (items : List A) (item : A). items ++ item ∷ [])
-      (tabulated-same n _ _ (λ k l. rw (h .names k l, h .firsts k l, h .seconds k l)))
+      (listed-same n _ _ (λ k l. rw (h .names k l, h .firsts k l, h .seconds k l)))
       (rw (h .name, h .first, h .second)))
 
   -- the names of items
   module _ (name : A → List ℕ) (made : (text : List ℕ) (a b : ℕ) → name (make text a b) ≡ text) where
     pub item-names : (n : ℕ) (c : Columns) → map name (itemsIn make n c) ≡ nameList n (c .names) (c .sizes)
     unfolding itemsIn nameList nameIn
-    item-names n c = map-tabulated name n _ ∙ tabulated-same n _ _ (λ k l. made _ _ _)
+    item-names n c = map-listed name n _ ∙ listed-same n _ _ (λ k l. made _ _ _)
 
     -- an item is read by the names of those before it
     item-read-named : (most low high low′ high′ n : ℕ) (c : Columns) (r : ℕ) (x : FourFields) (next : ℕ → ℕ → FilePlan)

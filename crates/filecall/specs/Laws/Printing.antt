@@ -9,13 +9,14 @@ use native.Mathlib.Omega.{arith}
 use lib.ListN.{length, take, drop, getD, set, take-append-drop, length-append, length-drop, drop-of-length-le}
 use lib.Seq.{length-take-le, take-at, drop-append-add, drop-drop, drop-cons, getD-take, getD-drop, set-split}
 use borrow.Author.Tests.{le-leb}
-use Rattle.csv.specs.declared.Wrote.the-variants.{Next}
-use Rattle.csv.specs.Bytes.{carriageReturn, lineFeed}
-use Rattle.csv.specs.Laws.Values.{written-plain}
-use Rattle.csv.specs.Spans.{fits, wrote, wroteOnExit}
-use Rattle.csv.specs.Writer.{written, writtenLine, writtenFile, writable}
-use Rattle.planning.specs.Modes.{Planned, outcomeOf, triesOf, pieceIn, overFront}
-use Rattle.planning.specs.Search.{Result, found, none, stopped, at, cell}
+use Rattle.lines.specs.declared.Wrote.the-variants.{Next}
+use Rattle.rfc4180.specs.Bytes.{carriageReturn, lineFeed}
+use Rattle.lines.specs.Laws.Values.{written-plain}
+use Rattle.lines.specs.Putting.{fits, wrote, wroteOnExit}
+use Rattle.rfc4180.specs.Writer.{written, writtenLine, writtenFile, writable}
+use Rattle.planning.specs.Modes.{Planned, outcomeOf, triesOf}
+use Rattle.planning.specs.Tables.{pieceIn, overFront, at, cell}
+use Rattle.planning.specs.Search.{Result, found, none, stopped}
 use Rattle.planfile.specs.FilePlan.{FilePlan, engineNames, deliveryNames}
 use Rattle.planfile.specs.Laws.Decimals.{decimal-plain}
 use Rattle.planfile.specs.Laws.PieceLines.{engines-named}

@@ -7,14 +7,14 @@ use native.Mathlib.Omega.{arith}
 use lib.Dec.{leb}
 use lib.ListN.{length}
 use borrow.Author.Tests.{le-leb, lt-leb}
-use Rattle.csv.specs.Laws.Writer.{length-written}
-use Rattle.csv.specs.Text.{ascii}
-use Rattle.csv.specs.Writer.{written, writtenLine, writtenFile}
+use Rattle.rfc4180.specs.Laws.Writer.{length-written}
+use Rattle.rfc4180.specs.Text.{ascii}
+use Rattle.rfc4180.specs.Writer.{written, writtenLine, writtenFile}
 use Rattle.planning.specs.declared.Answer.{Answer}
 use Rattle.planning.specs.declared.Fault.{Fault}
 use Rattle.planning.specs.declared.Fault.the-variants.{Size, Grammar, Fields, Kind, Name, Value, Count, NoEngine, Space}
 use Rattle.planning.specs.declared.Refusal.{Refusal}
-use Rattle.planning.specs.Modes.{overFront}
+use Rattle.planning.specs.Tables.{overFront}
 use Rattle.planning.specs.Refusals.{faultNumber}
 use Rattle.planfile.specs.declared.FileAnswer.{FileAnswer}
 use Rattle.planfile.specs.declared.FileAnswer.the-variants.{Printed, Refused}

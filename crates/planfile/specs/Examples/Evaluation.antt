@@ -3,10 +3,10 @@
 use Prim.Native.Nat.{ℕ}
 use Prim.Native.String.{String}
 use mathlib.Core.List.{List, map}
-use Rattle.csv.specs.Fields.{fieldValues}
-use Rattle.csv.specs.Records.{records}
-use Rattle.csv.specs.Text.{ascii}
-use Rattle.csv.specs.Writer.{writtenFile}
+use Rattle.rfc4180.specs.Fields.{fieldValues}
+use Rattle.rfc4180.specs.Records.{records}
+use Rattle.rfc4180.specs.Text.{ascii}
+use Rattle.rfc4180.specs.Writer.{writtenFile}
 use Rattle.planning.specs.Examples.Evaluation.{evaluated}
 use Rattle.planning.specs.Numbers.{within}
 use Rattle.planning.specs.Refusals.{faultNumber}

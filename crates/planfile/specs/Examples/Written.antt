@@ -2,8 +2,8 @@
 -- Assumes nothing.
 use mathlib.Core.Path.{_≡_, refl}
 use mathlib.Core.List.{[], _∷_}
-use Rattle.csv.specs.Text.{ascii}
-use Rattle.csv.specs.Writer.{writtenFile}
+use Rattle.rfc4180.specs.Text.{ascii}
+use Rattle.rfc4180.specs.Writer.{writtenFile}
 use Rattle.planning.specs.declared.Mode.the-variants.{Fixed}
 use Rattle.planfile.specs.Examples.Calls.{printedInput}
 use Rattle.planfile.specs.FilePlan.{FilePlan}

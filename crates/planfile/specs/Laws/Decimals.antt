@@ -10,9 +10,9 @@ use mathlib.Core.List.{List, [], _∷_, _++_, append-nil, append-assoc}
 use lib.ListN.{length, length-append, take, getD}
 use lib.Seq.{length-take-le, take-length, take-take, take-at, getD-take, getD-at}
 use borrow.Author.Tests.{lt-ltb, le-ltb}
-use Rattle.csv.specs.Grammar.{text-2D-7E}
-use Rattle.csv.specs.Laws.Classes.{text-class}
-use Rattle.csv.specs.Writer.{needsQuotes, writable}
+use Rattle.rfc4180.specs.Grammar.{text-2D-7E}
+use Rattle.rfc4180.specs.Laws.Classes.{text-class}
+use Rattle.rfc4180.specs.Writer.{needsQuotes, writable}
 use Rattle.planning.specs.Laws.Finite.Decisions.{le-or-lt}
 use Rattle.planning.specs.Plan.{All, Within}
 use Rattle.planfile.specs.Numerals.{digitZero, digitNine, valueBehind, Numeral, numeral-zero, numeral-digits, decimalWithin, decimal}

@@ -6,9 +6,9 @@ use Prim.Native.Nat.{ℕ, _≤_}
 use native.Mathlib.Omega.{arith}
 use mathlib.Core.List.{List, _∷_}
 use lib.ListN.{length, length-map}
-use Rattle.csv.specs.Fields.{fileValues}
-use Rattle.csv.specs.Records.{records}
-use Rattle.csv.specs.Laws.Files.{file-complete, file-sound}
+use Rattle.rfc4180.specs.Fields.{fileValues}
+use Rattle.rfc4180.specs.Records.{records}
+use Rattle.rfc4180.specs.Laws.Files.{file-complete, file-sound}
 use Rattle.planning.specs.declared.Refusal.{Refusal}
 use Rattle.planning.specs.Plan.{Within, InRange}
 use Rattle.planning.specs.Laws.Numbers.{leb-iff, within-iff}

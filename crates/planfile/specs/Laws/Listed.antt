@@ -8,7 +8,6 @@ use native.Mathlib.Omega.{arith}
 use mathlib.Core.Bool.{and-eq-true-iff}
 use mathlib.Core.List.{List, [], _∷_, _++_, map}
 use lib.ListN.{length, length-append}
-use lib.Dec.{ltb}
 use Rattle.planning.specs.Plan.{All, Within}
 use Rattle.planning.specs.Laws.Numbers.{ltb-iff}
 use Rattle.planfile.specs.FilePlan.{FilePlan}

@@ -7,9 +7,9 @@ use native.Mathlib.Omega.{arith}
 use mathlib.Core.List.{List, [], _∷_}
 use lib.ListN.{length, length-append, length-map}
 use Rattle.planning.specs.Laws.Finite.Sums.{sum-front, positives-front}
-use Rattle.planning.specs.Modes.{pieceIn}
+use Rattle.planning.specs.Tables.{pieceIn, at, cell}
 use Rattle.planning.specs.Plan.{All}
-use Rattle.planning.specs.Search.{found, at, cell}
+use Rattle.planning.specs.Search.{found}
 use Rattle.planning.specs.Sum.{sum, sgn, positives}
 use Rattle.planfile.specs.FilePlan.{FilePlan, NamedEngine, NamedDelivery, engineNames, deliveryNames}
 use Rattle.planfile.specs.Laws.Listed.{all-append}

@@ -7,10 +7,10 @@ use native.Mathlib.Omega.{arith}
 use mathlib.Core.Bool.{true}
 use mathlib.Core.List.{List, [], _∷_, _++_, map}
 use lib.ListN.{length, length-append, length-map}
-use Rattle.csv.specs.Grammar.{File}
-use Rattle.csv.specs.Laws.Writer.{file-written}
-use Rattle.csv.specs.Text.{ascii}
-use Rattle.csv.specs.Writer.{written, writtenLine, writtenFile, writable, writableRecord}
+use Rattle.rfc4180.specs.Grammar.{File}
+use Rattle.rfc4180.specs.Laws.Writer.{file-written}
+use Rattle.rfc4180.specs.Text.{ascii}
+use Rattle.rfc4180.specs.Writer.{written, writtenLine, writtenFile, writable, writableRecord}
 use Rattle.planning.specs.declared.Mode.{Mode}
 use Rattle.planning.specs.declared.Mode.the-variants.{Fixed, Shortest}
 use Rattle.planning.specs.Plan.{Engine, Delivery, All, Within, InRange, EngineInRange, DeliveryInRange}

@@ -7,17 +7,18 @@ use native.Mathlib.Omega.{arith}
 use mathlib.Core.Bool.{true, and-eq-true-iff}
 use mathlib.Core.List.{List, [], _∷_}
 use lib.ListN.{length}
-use Rattle.csv.specs.Bytes.{quote, comma, classOf}
-use Rattle.csv.specs.Grammar.{File, text-20-21, text-23-2B, text-2D-7E}
-use Rattle.csv.specs.Laws.Classes.{text-class}
-use Rattle.csv.specs.Laws.Writer.{file-written}
-use Rattle.csv.specs.Text.{ascii}
-use Rattle.csv.specs.Writer.{isAllowed, writable, writableRecord, writableFile}
+use Rattle.rfc4180.specs.Bytes.{quote, comma, classOf}
+use Rattle.rfc4180.specs.Grammar.{File, text-20-21, text-23-2B, text-2D-7E}
+use Rattle.rfc4180.specs.Laws.Classes.{text-class}
+use Rattle.rfc4180.specs.Laws.Writer.{file-written}
+use Rattle.rfc4180.specs.Text.{ascii}
+use Rattle.rfc4180.specs.Writer.{isAllowed, writable, writableRecord, writableFile}
 use Rattle.planning.specs.declared.Outcome.{Outcome}
 use Rattle.planning.specs.declared.Outcome.the-variants.{Found, None, Stopped}
 use Rattle.planning.specs.declared.Refusal.{Refusal}
 use Rattle.planning.specs.Laws.Finite.Decisions.{le-or-lt}
-use Rattle.planning.specs.Modes.{Planned, outcomeOf, triesOf, pieceIn}
+use Rattle.planning.specs.Modes.{Planned, outcomeOf, triesOf}
+use Rattle.planning.specs.Tables.{pieceIn}
 use Rattle.planning.specs.Plan.{All, Within}
 use Rattle.planning.specs.Refusals.{faultNumber}
 use Rattle.planning.specs.Search.{Result, found, none, stopped}

@@ -7,10 +7,10 @@ use mathlib.Core.Bool.{Bool, true, false, cond}
 use mathlib.Core.List.{List, [], _∷_, map}
 use lib.Dec.{eqb}
 use lib.ListN.{length, length-append}
-use Rattle.csv.specs.Bytes.{quote}
-use Rattle.csv.specs.Laws.Writer.{length-written}
-use Rattle.csv.specs.Text.{ascii}
-use Rattle.csv.specs.Writer.{needsQuotes, written, writtenLine, writtenFile, quoteCount}
+use Rattle.rfc4180.specs.Bytes.{quote}
+use Rattle.rfc4180.specs.Laws.Writer.{length-written}
+use Rattle.rfc4180.specs.Text.{ascii}
+use Rattle.rfc4180.specs.Writer.{needsQuotes, written, writtenLine, writtenFile, quoteCount}
 use Rattle.planning.specs.declared.Outcome.{Outcome}
 use Rattle.planning.specs.declared.Outcome.the-variants.{Found, None, Stopped}
 use Rattle.planning.specs.Bounds.{mostTries, mostEnergy, mostMinutes}
@@ -19,9 +19,10 @@ use Rattle.planning.specs.Laws.Modes.{planned-searched}
 use Rattle.planning.specs.Laws.Plans.{length-capacities, length-energies}
 use Rattle.planning.specs.Laws.Promises.{answered-minutes, found-serves, found-pieces, stopped-tries, answered-whole}
 use Rattle.planning.specs.Laws.Soundness.{plan-length}
-use Rattle.planning.specs.Modes.{planned, answerOf, outcomeOf, triesOf, pieceIn}
+use Rattle.planning.specs.Modes.{planned, answerOf, outcomeOf, triesOf}
+use Rattle.planning.specs.Tables.{pieceIn, at}
 use Rattle.planning.specs.Plan.{Plan, Delivery, All, InRange, DeliveryInRange}
-use Rattle.planning.specs.Search.{Result, found, none, stopped, at}
+use Rattle.planning.specs.Search.{Result, found, none, stopped}
 use Rattle.planning.specs.Sum.{positives}
 use Rattle.planfile.specs.FileCall.{printed}
 use Rattle.planfile.specs.FilePlan.{FilePlan, unnamed, engineNames, deliveryNames}

@@ -10,12 +10,11 @@ use native.Mathlib.Omega.{arith}
 use lib.ListN.{length, take, drop, getD, length-append}
 use lib.Dec.{leb}
 use borrow.Author.Tests.{le-leb}
-use Rattle.csv.specs.Grammar.{File}
-use Rattle.csv.specs.Laws.Files.{file-unique}
-use Rattle.csv.specs.Laws.RecordSpans.{records-count}
-use Rattle.csv.specs.Records.{records}
-use Rattle.csv.specs.Text.{ascii}
-use Rattle.csv.specs.Writer.{written, writtenLine, writtenFile}
+use Rattle.rfc4180.specs.Grammar.{File}
+use Rattle.rfc4180.specs.Laws.Files.{file-unique, records-count}
+use Rattle.rfc4180.specs.Records.{records}
+use Rattle.rfc4180.specs.Text.{ascii}
+use Rattle.rfc4180.specs.Writer.{written, writtenLine, writtenFile}
 use Rattle.planning.specs.declared.Fault.the-variants.{Space}
 use Rattle.planning.specs.declared.Outcome.{Outcome}
 use Rattle.planning.specs.declared.Outcome.the-variants.{Found, None, Stopped}
@@ -23,7 +22,8 @@ use Rattle.planning.specs.declared.Refusal.{Refusal}
 use Rattle.planning.specs.Bounds.{mostCells, mostEngines}
 use Rattle.planning.specs.Laws.Finite.Decisions.{le-or-lt}
 use Rattle.planning.specs.Laws.Numbers.{within-iff}
-use Rattle.planning.specs.Modes.{planned, overFront}
+use Rattle.planning.specs.Modes.{planned}
+use Rattle.planning.specs.Tables.{overFront}
 use Rattle.planning.specs.Numbers.{within}
 use Rattle.planning.specs.Refusals.{faultNumber}
 use Rattle.planfile.specs.Bounds.{mostBytes}

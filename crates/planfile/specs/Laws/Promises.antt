@@ -12,9 +12,9 @@ use lib.ListN.{length, take}
 use Rattle.planning.specs.declared.Answer.{Answer}
 use Rattle.planning.specs.declared.Refusal.{Refusal}
 use Rattle.planning.specs.Laws.Promises.{none-exactly, shortest-time, fixed-time, lent-table-serves, lent-kept, stopped-exactly, stopped-tries}
-use Rattle.planning.specs.Modes.{planned, answerOf, spares, overFront, tableAfter, sparesAfter}
+use Rattle.planning.specs.Modes.{planned, answerOf, tableAfter, sparesAfter}
+use Rattle.planning.specs.Tables.{overFront, at}
 use Rattle.planning.specs.Refusals.{faultNumber}
-use Rattle.planning.specs.Search.{found, none, stopped, at}
 use Rattle.planfile.specs.declared.FileAnswer.{FileAnswer}
 use Rattle.planfile.specs.declared.FileAnswer.the-variants.{Printed, Refused}
 use Rattle.planfile.specs.FileCall.{FileCall, printed, readCall, answerBy, answerToFile, onExit, fileTable, fileSpare, fileOutput}

@@ -9,13 +9,14 @@ use native.Mathlib.Omega.{arith}
 use mathlib.Core.List.{List, [], _∷_, _++_, nil≢cons, cons-eq-cons, List·Memᴰ, List·Memᴰ·head, List·Memᴰ·tail, List·Memᴰ·not-nil, List·Memᴰ·cases-cons, List·Memᴰ·append-cases, List·Memᴰ·eq-of-singleton}
 use lib.ListN.{length, getD, List·getD-append}
 use lib.Seq.{getD-append-add}
-use Rattle.csv.specs.Grammar.{File}
-use Rattle.csv.specs.Laws.Files.{file-unique}
-use Rattle.csv.specs.Text.{ascii}
+use Rattle.rfc4180.specs.Grammar.{File}
+use Rattle.rfc4180.specs.Laws.Files.{file-unique}
+use Rattle.rfc4180.specs.Text.{ascii}
 use Rattle.planning.specs.Laws.Finite.Sums.{sgn-pos, sum-front, positives-front}
-use Rattle.planning.specs.Modes.{Planned, outcomeOf, triesOf, pieceIn}
+use Rattle.planning.specs.Modes.{Planned, outcomeOf, triesOf}
+use Rattle.planning.specs.Tables.{pieceIn, at, cell}
 use Rattle.planning.specs.Plan.{All}
-use Rattle.planning.specs.Search.{found, at, cell}
+use Rattle.planning.specs.Search.{found}
 use Rattle.planning.specs.Sum.{sum, sgn, positives}
 use Rattle.planfile.specs.FilePlan.{FilePlan, engineNames, deliveryNames, nameAt}
 use Rattle.planfile.specs.Holding.{Unlike, Holds}

@@ -6,9 +6,9 @@ use Prim.Native.Nat.{ℕ, _+_}
 use native.Mathlib.Omega.{arith}
 use mathlib.Core.List.{List, [], _∷_, _++_, append-nil, append-assoc, nil≢cons, cons≢nil, head-eq-of-cons-eq, tail-eq-of-cons-eq}
 use mathlib.Core.Option.{some, Option·some-inj}
-use Rattle.csv.specs.Fields.{readAll, andThen, fieldValues}
-use Rattle.csv.specs.Text.{ascii}
-use Rattle.csv.specs.Laws.Records.{and-then}
+use Rattle.rfc4180.specs.Fields.{readAll, andThen, fieldValues}
+use Rattle.rfc4180.specs.Text.{ascii}
+use Rattle.rfc4180.specs.Laws.Records.{and-then}
 use Rattle.planning.specs.declared.Mode.{Mode}
 use Rattle.planning.specs.Bounds.{mostMinutes, mostTries}
 use Rattle.planning.specs.Plan.{Within}

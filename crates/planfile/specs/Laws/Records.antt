@@ -6,8 +6,8 @@ use Prim.Native.Nat.{ℕ}
 use mathlib.Core.Bool.{Bool, true, false}
 use mathlib.Core.List.{List, [], _∷_, _++_}
 use mathlib.Core.Option.{Option, none, some, Option·none-ne-some}
-use Rattle.csv.specs.Fields.{fieldValues}
-use Rattle.csv.specs.Text.{ascii}
+use Rattle.rfc4180.specs.Fields.{fieldValues}
+use Rattle.rfc4180.specs.Text.{ascii}
 use Rattle.planning.specs.Bounds.{mostEngines, mostDeliveries, mostMinutes, mostTries, mostWatts, mostFuel, mostEnergy, mostLimit}
 use Rattle.planning.specs.Plan.{Within, EngineInRange, DeliveryInRange}
 use Rattle.planfile.specs.FilePlan.{FilePlan, NamedEngine, NamedDelivery, engineOf, deliveryOf, withEngine, withDelivery}

@@ -7,8 +7,8 @@ use mathlib.Core.Bool.{Bool, true, false}
 use mathlib.Core.List.{List, [], _∷_}
 use mathlib.Core.Option.{Option, none, some}
 use lib.ListN.{length}
-use Rattle.csv.specs.Fields.{fieldValues}
-use Rattle.csv.specs.Records.{records}
+use Rattle.rfc4180.specs.Fields.{fieldValues}
+use Rattle.rfc4180.specs.Records.{records}
 use Rattle.planning.specs.declared.Fault.{Fault}
 use Rattle.planning.specs.declared.Fault.the-variants.{Size, Grammar, Fields, Kind, Name, Value, Count, NoEngine, Space}
 use Rattle.planning.specs.declared.Refusal.{Refusal}

@@ -9,7 +9,7 @@ use mathlib.Core.List.{List, [], _∷_, nil≢cons, cons≢nil, cons-eq-cons}
 use mathlib.Core.Option.{Option, none, some, Option·none-ne-some, Option·some-inj}
 use lib.Dec.{eqb}
 use borrow.Author.Tests.{eqb-true, eqb-false}
-use Rattle.csv.specs.Text.{ascii}
+use Rattle.rfc4180.specs.Text.{ascii}
 use Rattle.planning.specs.declared.Fault.{Fault}
 use Rattle.planning.specs.declared.Mode.{Mode}
 use Rattle.planning.specs.declared.Mode.the-variants.{Fixed, Shortest}

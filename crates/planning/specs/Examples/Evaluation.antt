@@ -5,9 +5,10 @@ use mathlib.Core.List.{List, [], map}
 use Rattle.planning.specs.declared.Answer.{Answer}
 use Rattle.planning.specs.declared.Mode.{Mode}
 use Rattle.planning.specs.Capacity.{capacity, capacities}
-use Rattle.planning.specs.Modes.{searchAt, plannedAt, byOutcome, whileAbove, bisect, shortest, plannedIn, planned, listed, pieceIn, spares, overFront, tableBy, tableAfter, sparesBy, sparesAfter, outcomeOf, triesOf, answerOf}
+use Rattle.planning.specs.Modes.{searchAt, plannedAt, byOutcome, whileAbove, bisect, shortest, plannedIn, planned, spares, tableBy, tableAfter, sparesBy, sparesAfter, outcomeOf, triesOf, answerOf}
+use Rattle.planning.specs.Tables.{listed, pieceIn, overFront, cell}
 use Rattle.planning.specs.Plan.{Plan, Engine, Delivery}
-use Rattle.planning.specs.Search.{total, comesFirst, bulkier, replaces, withDelivery, bulkiestOf, smaller, smallestOf, smallest, stepBy, stepWith, stepOf, canLay, afterLaying, canCut, afterCutting, drawn, undrawn, straightFill, cell, withPiece, orElse, permitted, permission, oneEngine, eachEngine, perform, size, searchWithin, searchFrom, unlessTooMuch, searched}
+use Rattle.planning.specs.Search.{total, comesFirst, bulkier, replaces, withDelivery, bulkiestOf, smaller, smallestOf, smallest, stepBy, stepWith, stepOf, canLay, afterLaying, canCut, afterCutting, drawn, undrawn, straightFill, withPiece, orElse, permitted, permission, oneEngine, eachEngine, perform, size, searchWithin, searchFrom, unlessTooMuch, searched}
 use Rattle.planning.specs.Sum.{sum, sgn, positives}
 
 -- an engine with watts and fuel, a delivery with energy and limit

@@ -15,7 +15,8 @@ use lib.Dec.{T}
 use borrow.Author.Tests.{le-ltb}
 use Rattle.planning.specs.Sum.{sum}
 use Rattle.planning.specs.Cutting.{Cuts}
-use Rattle.planning.specs.Search.{State, at, total, Step, finished, fills, lays, cuts, stepOf, Result, found, none, stopped, cell, withPiece, orElse, Allowance, Permission, granted, exceeds, permission, oneEngine, eachEngine, perform, size, searchWithin, searchFrom, unlessTooMuch, searched}
+use Rattle.planning.specs.Search.{State, total, Step, finished, fills, lays, cuts, stepOf, Result, found, none, stopped, withPiece, orElse, Allowance, Permission, granted, exceeds, permission, oneEngine, eachEngine, perform, size, searchWithin, searchFrom, unlessTooMuch, searched}
+use Rattle.planning.specs.Tables.{at, cell}
 use Rattle.planning.specs.Laws.Finite.Decisions.{equal-or-not}
 use Rattle.planning.specs.Laws.Completeness.FromState.{Servable, Tried, lays-tried, cuts-tried}
 use Rattle.planning.specs.Laws.Search.Steps.{step-lays, step-cuts}

@@ -15,11 +15,11 @@ use Rattle.planning.specs.Cutting.{Fits, Serves}
 use Rattle.planning.specs.Laws.Finite.Sums.{sum-ext, positives-ext}
 use Rattle.planning.specs.Laws.Plans.{length-capacities, length-energies}
 use Rattle.planning.specs.Laws.Soundness.Table.{cell-inside}
-use Rattle.planning.specs.Modes.{planned, outcomeOf, pieceIn, overFront, tableBy, tableAfter, sparesBy, sparesAfter}
+use Rattle.planning.specs.Modes.{planned, outcomeOf, tableBy, tableAfter, sparesBy, sparesAfter}
+use Rattle.planning.specs.Tables.{pieceIn, overFront, at, cell}
 use Rattle.planning.specs.Numbers.{Call, refusalOf, answeredBy, allocation, unlessRefused, tableOnExit, spareOnExit}
 use Rattle.planning.specs.Plan.{Plan}
-use Rattle.planning.specs.Search.{Result, found, none, stopped, at, cell}
-use Rattle.planning.specs.Sum.{sum, positives}
+use Rattle.planning.specs.Search.{Result, found, none, stopped}
 
 -- two tables with the same pieces
 pub fits-same : {engines deliveries : ℕ} {capacity amount limit : ℕ → ℕ} {x y : ℕ → ℕ → ℕ}

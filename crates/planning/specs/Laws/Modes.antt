@@ -13,7 +13,8 @@ use Rattle.planning.specs.declared.Outcome.{Outcome}
 use Rattle.planning.specs.declared.Outcome.the-variants.{Found, None, Stopped}
 use Rattle.planning.specs.Capacity.{capacities}
 use Rattle.planning.specs.Cutting.{Served, NotServed}
-use Rattle.planning.specs.Modes.{searchAt, pieceIn, Planned, plannedAt, shortest, plannedIn, planned, outcomeOf}
+use Rattle.planning.specs.Modes.{searchAt, Planned, plannedAt, shortest, plannedIn, planned, outcomeOf}
+use Rattle.planning.specs.Tables.{pieceIn}
 use Rattle.planning.specs.Plan.{Plan, DeliveryInRange, All, energies, limits}
 use Rattle.planning.specs.Search.{Result, found, none, stopped, upTo}
 use Rattle.planning.specs.Laws.Modes.Bisection.{by-outcome, bisect-induction}

@@ -1,14 +1,13 @@
 -- A plan as the lists of numbers that its search works on, and the list of its spares.
 -- Assumes nothing.
-use mathlib.Core.Path.{_≡_, refl, ap}
+use mathlib.Core.Path.{_≡_}
 use mathlib.Core.List.{List, [], _∷_, map}
 use Prim.Native.Nat.{ℕ, zero, suc, _≤_, _<_}
 use lib.ListN.{length, length-map}
 use native.Mathlib.Omega.{arith}
 use Rattle.planning.specs.Capacity.{capacity, capacities}
-use Rattle.planning.specs.Modes.{listed}
+use Rattle.planning.specs.Tables.{at}
 use Rattle.planning.specs.Plan.{Plan, Delivery, All, DeliveryInRange, energies, limits}
-use Rattle.planning.specs.Search.{at}
 
 pub length-capacities : (plan : Plan) (T : ℕ) → length (capacities plan T) ≡ length (plan .engines)
 unfolding capacities
@@ -28,14 +27,3 @@ limit-positive plan = go (plan .deliveries)
     go [] h p l = absurd (omega arith)
     go (d ∷ ds) h zero l = h .0 .limit .least
     go (d ∷ ds) h (suc p) l = go ds (h .1) p (omega arith)
-
-pub length-listed : (n : ℕ) (f : ℕ → ℕ) → length (listed n f) ≡ n
-unfolding listed
-length-listed zero f = refl
-length-listed (suc n) f = ap suc (length-listed n (λ i. f (suc i)))
-
-pub at-listed : (n : ℕ) (f : ℕ → ℕ) (i : ℕ) → i < n → at (listed n f) i ≡ f i
-unfolding listed
-at-listed zero f i l = absurd (omega arith)
-at-listed (suc n) f zero l = refl
-at-listed (suc n) f (suc i) l = at-listed n (λ k. f (suc k)) i (omega arith)

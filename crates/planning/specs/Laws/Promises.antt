@@ -16,9 +16,10 @@ use Rattle.planning.specs.Laws.Lent.{lent-serves, kept-unless-found}
 use Rattle.planning.specs.Laws.Modes.{LeastTime, planned-searched, planned-none-exactly, planned-fixed-found, planned-shortest-found, fixed-shortest-found}
 use Rattle.planning.specs.Laws.Search.Tries.{WithAllowance, stopped-outcome, going-outcome, searched-with-allowance}
 use Rattle.planning.specs.Laws.Soundness.{plan-serves, plan-length, plan-pieces, plan-spares}
-use Rattle.planning.specs.Modes.{planned, plannedIn, searchAt, unlimitedAt, answerOf, outcomeOf, triesOf, pieceIn, spares, tableBy, tableAfter, sparesAfter}
+use Rattle.planning.specs.Modes.{planned, plannedIn, searchAt, unlimitedAt, answerOf, outcomeOf, triesOf, spares, tableBy, tableAfter, sparesAfter}
+use Rattle.planning.specs.Tables.{pieceIn, at}
 use Rattle.planning.specs.Plan.{Plan, Within, InRange, energies, limits}
-use Rattle.planning.specs.Search.{Result, at, found, none, stopped}
+use Rattle.planning.specs.Search.{Result, found, none, stopped}
 use Rattle.planning.specs.Sum.{sum, positives}
 
 -- Unless the answer is stopped, it is none exactly when, for every n from 1, no cutting in n parts serves the plan in its MINUTES;

@@ -16,12 +16,14 @@ use borrow.Author.Tests.{ltb-false}
 use native.Mathlib.Omega.{arith}
 use Rattle.planning.specs.Capacity.{capacities}
 use Rattle.planning.specs.Cutting.{Fits, Cuts, Serves}
-use Rattle.planning.specs.Laws.Plans.{length-capacities, length-energies, limit-positive, at-listed, length-listed}
+use Rattle.planning.specs.Laws.Plans.{length-capacities, length-energies, limit-positive}
+use Rattle.planning.specs.Laws.Tables.{at-listed, length-listed}
 use Rattle.planning.specs.Laws.Soundness.FromState.{Sound, search-sound}
 use Rattle.planning.specs.Laws.Finite.Sums.{positives-le-bound}
-use Rattle.planning.specs.Modes.{searchAt, pieceIn, spares}
+use Rattle.planning.specs.Modes.{searchAt, spares}
+use Rattle.planning.specs.Tables.{pieceIn, at}
 use Rattle.planning.specs.Plan.{Plan, All, DeliveryInRange, energies, limits}
-use Rattle.planning.specs.Search.{State, at, total, found, Allowance, upTo, size, searchFrom, unlessTooMuch, searched}
+use Rattle.planning.specs.Search.{State, total, found, Allowance, upTo, size, searchFrom, unlessTooMuch, searched}
 use Rattle.planning.specs.Sum.{sum, positives}
 
 -- the state that the search begins in

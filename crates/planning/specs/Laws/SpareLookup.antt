@@ -11,7 +11,7 @@ use Rattle.planning.specs.declared.Lookup.{Lookup}
 use Rattle.planning.specs.declared.Lookup.the-variants.{Engine, Nowhere, Refused}
 use Rattle.planning.specs.declared.Refusal.{Refusal}
 use Rattle.planning.specs.Laws.Finite.Decisions.{le-or-lt, below-next}
-use Rattle.planning.specs.Search.{at}
+use Rattle.planning.specs.Tables.{at}
 use Rattle.planning.specs.SpareLookup.{lookupRefusal, Names, PermittedBy, Permitted}
 
 -- some engine among the first n has the amount, or none of them has

@@ -5,7 +5,7 @@ use mathlib.Core.Logic.{⊎-elim}
 use Prim.Native.Nat.{ℕ, _-_, _≤_, _<_}
 use native.Mathlib.Omega.{arith}
 use borrow.Author.Count.{below-more}
-use Rattle.planning.specs.Search.{at}
+use Rattle.planning.specs.Tables.{at}
 use Rattle.allocation.proofs.choice.slot_of.Statement.{statement}
 use Rattle.allocation.proofs.choice.slot_of.Tie as tie
 

@@ -6,7 +6,7 @@ use Prim.Native.Nat.{_*_, _%_, _^_, _≤_, _<_}
 use native.Mathlib.Omega.{arith}
 use borrow.Author.Tests.{ltb-true, ltb-false}
 use lib.Count.{trailingZeros}
-use Rattle.planning.specs.Search.{at}
+use Rattle.planning.specs.Tables.{at}
 use Rattle.allocation.specs.Laws.Passes.{LeastSoFar, Next, smaller-taken, smaller-kept, least-start, least-next, least-end, next-member}
 use Rattle.allocation.specs.Laws.Sets.{shifted}
 use Rattle.allocation.proofs.choice.smallest.Statement.{statement}

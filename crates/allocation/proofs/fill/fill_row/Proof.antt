@@ -7,7 +7,7 @@ use mathlib.Core.List.{List}
 use Prim.Native.Nat.{ℕ, _+_, _≤_, _<_, _-_, min}
 use native.Mathlib.Omega.{arith}
 use lib.ListN.{length, set, length-set}
-use Rattle.planning.specs.Search.{at}
+use Rattle.planning.specs.Tables.{at}
 use Rattle.allocation.specs.Laws.Filling.{rowWhole, row-none, row-more, row-all, remainsWhole, remains-none, remains-more, remains-all}
 use Rattle.allocation.proofs.fill.fill_row.Statement.{statement}
 use Rattle.allocation.proofs.fill.fill_row.Tie as tie

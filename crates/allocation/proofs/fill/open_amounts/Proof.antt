@@ -8,9 +8,8 @@ use native.Mathlib.Omega.{arith}
 use borrow.Author.Count.{below-none, below-more}
 use lib.ListN.{length, set, length-set}
 use lib.Seq.{getD-set-same, getD-set-other, set-getD, ext-getD}
-use Rattle.planning.specs.Laws.Plans.{length-listed, at-listed}
-use Rattle.planning.specs.Modes.{listed}
-use Rattle.planning.specs.Search.{at}
+use Rattle.planning.specs.Laws.Tables.{length-listed, at-listed}
+use Rattle.planning.specs.Tables.{listed, at}
 use Rattle.allocation.specs.Laws.Filling.{at-zeros}
 use Rattle.allocation.specs.Laws.Members.{member, no-member, remaining-open, remaining-closed}
 use Rattle.allocation.specs.Layout.{remainingAt}

@@ -7,8 +7,8 @@ use native.Mathlib.Nat.{mul-le-mul}
 use native.Mathlib.Omega.{arith}
 use borrow.Author.Needs.{needs}
 use lib.ListN.{length, take}
-use Rattle.planning.specs.Laws.Plans.{length-listed, at-listed}
-use Rattle.planning.specs.Modes.{listed}
+use Rattle.planning.specs.Laws.Tables.{length-listed, at-listed}
+use Rattle.planning.specs.Tables.{listed}
 use Rattle.planning.specs.Search.{straightFill}
 use Rattle.allocation.specs.Laws.Filling.{tableWhole, table-none, table-more, table-all, row-fits, take-listed}
 use Rattle.allocation.specs.Layout.{restAt, remainingAt}

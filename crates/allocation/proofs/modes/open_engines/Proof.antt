@@ -14,7 +14,7 @@ use native.Mathlib.Omega.{arith}
 use borrow.Author.Count.{below-more}
 use borrow.Author.Tests.{lt-ltb, le-ltb}
 use Rattle.planning.specs.Laws.Finite.Decisions.{le-or-lt}
-use Rattle.planning.specs.Search.{at}
+use Rattle.planning.specs.Tables.{at}
 use Rattle.allocation.specs.Laws.FirstSet.{beyond}
 use Rattle.allocation.specs.Laws.Sets.{shifted, has-with-same, has-with-other}
 use Rattle.allocation.specs.Sets.{has}

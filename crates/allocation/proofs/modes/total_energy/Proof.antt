@@ -4,7 +4,8 @@ use mathlib.Core.Path.{_≡_, refl, ap, _∙_}
 use Prim.Native.Nat.{_-_, _*_, _≤_}
 use lib.ListN.{length}
 use native.Mathlib.Omega.{arith}
-use Rattle.planning.specs.Search.{at, total}
+use Rattle.planning.specs.Search.{total}
+use Rattle.planning.specs.Tables.{at}
 use Rattle.planning.specs.Sum.{sum as sumOf}
 use Rattle.allocation.specs.Laws.Lists.{sum-next}
 use Rattle.allocation.proofs.modes.total_energy.Statement.{statement}

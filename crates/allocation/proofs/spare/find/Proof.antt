@@ -4,7 +4,7 @@ use Prim.Native.Nat.{ℕ, _-_, _≤_, _<_}
 use lib.ListN.{length}
 use native.Mathlib.Omega.{arith}
 use borrow.Author.Count.{below-more}
-use Rattle.planning.specs.Search.{at}
+use Rattle.planning.specs.Tables.{at}
 use Rattle.planning.specs.SpareLookup.{Names}
 use Rattle.allocation.proofs.spare.find.Statement.{statement}
 use Rattle.allocation.proofs.spare.find.Tie as tie

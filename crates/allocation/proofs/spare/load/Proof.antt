@@ -5,8 +5,7 @@ use Prim.Native.Nat.{ℕ, _+_, _-_, _*_, _≤_, _<_}
 use lib.ListN.{length}
 use native.Mathlib.Omega.{arith}
 use Rattle.planning.specs.Laws.Soundness.Table.{cell-inside}
-use Rattle.planning.specs.Modes.{pieceIn}
-use Rattle.planning.specs.Search.{cell, at}
+use Rattle.planning.specs.Tables.{pieceIn, cell, at}
 use Rattle.planning.specs.Sum.{sum as sumOf}
 use Rattle.allocation.specs.Laws.Lists.{sum-next, next-within}
 use Rattle.allocation.proofs.spare.load.Statement.{statement}

@@ -9,7 +9,8 @@ use lib.Seq.{take-all}
 use native.Mathlib.Omega.{arith}
 use Rattle.planning.specs.declared.Mode.the-variants.{Fixed}
 use Rattle.planning.specs.Capacity.{capacity}
-use Rattle.planning.specs.Modes.{spares, pieceIn}
+use Rattle.planning.specs.Modes.{spares}
+use Rattle.planning.specs.Tables.{pieceIn}
 use Rattle.planning.specs.Plan.{EngineInRange}
 use Rattle.planning.specs.Sum.{sum}
 use Rattle.allocation.specs.Laws.Front.{front, front-none, front-more, front-length, front-all}

@@ -11,7 +11,7 @@ use lib.ListN.{length, set, length-set}
 use lib.Pow.{pow-pos}
 use lib.Seq.{getD-set-same, getD-set-other}
 use Rattle.planning.specs.Laws.Finite.Decisions.{equal-or-not}
-use Rattle.planning.specs.Search.{at}
+use Rattle.planning.specs.Tables.{at}
 use Rattle.allocation.specs.declared.state.State.{State}
 use Rattle.allocation.specs.Layout.{holds, limitOf, Kept, Picked}
 use Rattle.allocation.specs.Sets.{has}

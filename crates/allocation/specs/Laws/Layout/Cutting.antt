@@ -9,10 +9,10 @@ use native.Mathlib.Omega.{arith}
 use lib.Count.{ones}
 use Rattle.planning.specs.Bounds.{mostEnergy}
 use Rattle.planning.specs.Laws.Finite.Decisions.{equal-or-not, at-or-else}
-use Rattle.planning.specs.Laws.Plans.{at-listed}
-use Rattle.planning.specs.Modes.{listed}
+use Rattle.planning.specs.Laws.Tables.{at-listed}
+use Rattle.planning.specs.Tables.{listed, at}
 use Rattle.planning.specs.Plan.{Within}
-use Rattle.planning.specs.Search.{at, afterCutting}
+use Rattle.planning.specs.Search.{afterCutting}
 use Rattle.allocation.specs.declared.state.State.{State}
 use Rattle.allocation.specs.Layout.{holds, remainingAt, restOf, limitOf, stateOf, Deliveries, Engines, Kept, Sized, Picked, CutOff}
 use Rattle.allocation.specs.Sets.{has}

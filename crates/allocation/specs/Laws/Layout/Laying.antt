@@ -10,10 +10,10 @@ use lib.ListN.{length, set, length-set}
 use lib.Seq.{getD-set-same, getD-set-other}
 use Rattle.planning.specs.Bounds.{mostEnergy}
 use Rattle.planning.specs.Laws.Finite.Decisions.{equal-or-not, le-or-lt, at-or-else}
-use Rattle.planning.specs.Laws.Plans.{at-listed}
-use Rattle.planning.specs.Modes.{listed}
+use Rattle.planning.specs.Laws.Tables.{at-listed}
+use Rattle.planning.specs.Tables.{listed, at}
 use Rattle.planning.specs.Plan.{Within}
-use Rattle.planning.specs.Search.{at, afterLaying}
+use Rattle.planning.specs.Search.{afterLaying}
 use Rattle.allocation.specs.declared.state.State.{State}
 use Rattle.allocation.specs.Layout.{holds, remainingAt, restOf, limitOf, stateOf, Deliveries, Engines, Kept, Sized, Picked, Laid}
 use Rattle.allocation.specs.Sets.{has}

@@ -10,7 +10,7 @@ use lib.Count.{ones}
 use Rattle.planning.specs.Bounds.{mostEnergy}
 use Rattle.planning.specs.Laws.Finite.Decisions.{le-or-lt}
 use Rattle.planning.specs.Plan.{Within}
-use Rattle.planning.specs.Search.{at}
+use Rattle.planning.specs.Tables.{at}
 use Rattle.allocation.specs.declared.state.State.{State}
 use Rattle.allocation.specs.Layout.{holds, limitOf, Kept, Picked}
 use Rattle.allocation.specs.Sets.{has}

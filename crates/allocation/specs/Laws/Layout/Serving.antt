@@ -5,7 +5,7 @@ use mathlib.Core.Bool.{Bool, true, false}
 use mathlib.Core.List.{List}
 use Prim.Native.Nat.{ℕ, _^_, _<_}
 use native.Mathlib.Omega.{arith}
-use Rattle.planning.specs.Search.{at}
+use Rattle.planning.specs.Tables.{at}
 use Rattle.allocation.specs.Layout.{Engines}
 use Rattle.allocation.specs.Sets.{has}
 use Rattle.allocation.specs.Laws.Sets.{clash, below-of-members}

@@ -10,7 +10,7 @@ use lib.Count.{ones}
 use lib.Dec.{ltb, eqb}
 use borrow.Author.Tests.{ltb-true, eqb-true, lt-ltb, le-ltb, eq-eqb, ne-eqb}
 use Rattle.planning.specs.Laws.Finite.Sums.{sum-ext, sum-single, sum-zero}
-use Rattle.planning.specs.Search.{at}
+use Rattle.planning.specs.Tables.{at}
 use Rattle.planning.specs.Sum.{sum}
 use Rattle.allocation.specs.declared.state.State.{State}
 use Rattle.allocation.specs.Layout.{holds, slotRest, slotServed, restAt, limitAt, restOf, limitOf}

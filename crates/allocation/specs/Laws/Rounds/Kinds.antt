@@ -10,10 +10,11 @@ use native.Mathlib.Omega.{arith}
 use borrow.Author.Tests.{le-ltb, lt-leb}
 use lib.ListN.{length, List·getD-eq-default}
 use Rattle.planning.specs.Laws.Finite.Decisions.{le-or-lt}
-use Rattle.planning.specs.Laws.Plans.{at-listed, length-listed}
+use Rattle.planning.specs.Laws.Tables.{at-listed, length-listed}
 use Rattle.planning.specs.Laws.Search.Bound.{size-laying, size-cutting}
 use Rattle.planning.specs.Laws.Search.Steps.{lay-can, cut-can}
-use Rattle.planning.specs.Search.{State as Document, at, Step, lays, cuts, canLay, afterLaying, canCut, afterCutting, size}
+use Rattle.planning.specs.Search.{State as Document, Step, lays, cuts, canLay, afterLaying, canCut, afterCutting, size}
+use Rattle.planning.specs.Tables.{at}
 use Rattle.allocation.specs.declared.state.State.{State}
 use Rattle.allocation.specs.Laws.Layout.Picked.{rest-range}
 use Rattle.allocation.specs.Laws.Members.{remaining-open, remaining-closed}

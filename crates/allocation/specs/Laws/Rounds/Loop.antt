@@ -8,8 +8,9 @@ use Prim.Native.Nat.{ℕ, _+_, _*_, _-_, _%_, _^_, _≤_, _<_}
 use native.Mathlib.Omega.{arith}
 use lib.Count.{trailingZeros}
 use lib.ListN.{length, set as put}
-use Rattle.planning.specs.Laws.Plans.{length-listed}
-use Rattle.planning.specs.Search.{at, Result, upTo, perform, size, searchFrom}
+use Rattle.planning.specs.Laws.Tables.{length-listed}
+use Rattle.planning.specs.Search.{Result, upTo, perform, size, searchFrom}
+use Rattle.planning.specs.Tables.{at}
 use Rattle.allocation.specs.declared.search.Ended.{Ended}
 use Rattle.allocation.specs.declared.search.Ended.the-variants.{Found, None, Stopped}
 use Rattle.allocation.specs.declared.state.State.{State}

@@ -4,7 +4,7 @@ use mathlib.Core.Path.{_≡_, refl, sym, _∙_}
 use mathlib.Core.List.{List}
 use Prim.Native.Nat.{ℕ, _*_}
 use lib.ListN.{length, replicate}
-use Rattle.planning.specs.Laws.Plans.{length-listed}
+use Rattle.planning.specs.Laws.Tables.{length-listed}
 use Rattle.planning.specs.Laws.Search.Bound.{search-steps}
 use Rattle.planning.specs.Search.{State as Document, finished, stepOf, Result, Allowance, upTo, perform, searchFrom}
 use Rattle.allocation.specs.declared.choice.Turn.{Turn}

@@ -15,7 +15,8 @@ use lib.ListN.{length, set as put}
 use Rattle.planning.specs.Laws.Search.Tries.{search-with-allowance, allowance-cases, none-not-stopped}
 use Rattle.planning.specs.Laws.Soundness.Table.{cell-inside}
 use Rattle.planning.specs.Modes.{triesOf}
-use Rattle.planning.specs.Search.{State as Document, Result, found, none, stopped, withPiece, orElse, upTo, unlimited, permitted, permission, oneEngine, eachEngine, cell, searchFrom}
+use Rattle.planning.specs.Search.{State as Document, Result, found, none, stopped, withPiece, orElse, upTo, unlimited, permitted, permission, oneEngine, eachEngine, searchFrom}
+use Rattle.planning.specs.Tables.{cell}
 use Rattle.allocation.specs.declared.search.Ended.{Ended}
 use Rattle.allocation.specs.declared.search.Ended.the-variants.{Found, None, Stopped}
 use Rattle.allocation.specs.Sets.{has}

@@ -2,7 +2,7 @@
 use mathlib.Core.Path.{sym, ap}
 use native.Mathlib.Omega.{arith}
 use lib.ListN.{drop-of-length-le}
-use Rattle.csv.specs.Fields.{allText}
+use Rattle.rfc4180.specs.Fields.{allText}
 use Rattle.csv.specs.Laws.Scans.{text-found}
 use Rattle.csv.proofs.fields.all_text.Statement.{statement}
 use Rattle.csv.proofs.fields.all_text.Tie as tie

@@ -11,7 +11,7 @@ use native.Mathlib.Numerals.{add-one}
 use native.Mathlib.Omega.{arith}
 use lib.ListN.{length, drop, getD, set, length-set}
 use lib.Seq.{paste, paste-zero, paste-suc}
-use Rattle.csv.specs.Fields.{escapedValue, fieldValue}
+use Rattle.rfc4180.specs.Fields.{escapedValue, fieldValue}
 use Rattle.csv.specs.Laws.Measures.{quoted-value}
 use Rattle.csv.specs.Laws.Copies.{NextByte, next-byte, value-left}
 use Rattle.csv.proofs.fields.copy_undone.Statement.{statement}

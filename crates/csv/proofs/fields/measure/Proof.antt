@@ -6,7 +6,7 @@ use Prim.Native.Nat.{_≤_}
 use native.Mathlib.Omega.{arith}
 use lib.ListN.{length, getD}
 use borrow.Author.Needs.{needs}
-use Rattle.csv.specs.Bytes.{quote}
+use Rattle.rfc4180.specs.Bytes.{quote}
 use Rattle.csv.specs.Measures.{measuredBy, measured}
 use Rattle.csv.specs.Laws.Parts.{text-measured, plain-none}
 use Rattle.csv.proofs.fields.measure.Statement.{statement}

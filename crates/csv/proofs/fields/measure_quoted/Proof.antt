@@ -8,9 +8,9 @@ use native.Mathlib.Omega.{arith}
 use types.Run.{miss}
 use lib.ListN.{length, drop, drop-of-length-le}
 use borrow.Author.Tests.{not-false}
-use Rattle.csv.specs.Bytes.{quote}
+use Rattle.rfc4180.specs.Bytes.{quote}
 use Rattle.csv.specs.Measures.{measured}
-use Rattle.csv.specs.Laws.Spans.{bytes-from}
+use Rattle.rfc4180.specs.Laws.Places.{bytes-from}
 use Rattle.csv.specs.Laws.Measures.{leftMeasured, measured-quoted, left-itself, left-doubled, left-closed, left-single, left-refused, left-open}
 use Rattle.csv.specs.Laws.Scans.{plain-means, plain-allowed}
 use Rattle.csv.proofs.fields.measure_quoted.Statement.{statement}

@@ -4,7 +4,7 @@ use Prim.Native.Nat.{ℕ, _-_}
 use native.Mathlib.Omega.{arith}
 use lib.ListN.{length, take, drop, getD}
 use borrow.Author.Tests.{le-leb, lt-leb, eq-eqb, ne-eqb}
-use Rattle.csv.specs.Bytes.{quote}
+use Rattle.rfc4180.specs.Bytes.{quote}
 use Rattle.csv.specs.Spans.{insideOf}
 use Rattle.csv.proofs.fields.part_of.Statement.{statement}
 use Rattle.csv.proofs.fields.part_of.Tie as tie

@@ -9,9 +9,9 @@ use lib.ListN.{length, getD}
 use borrow.Author.Tests.{not-true, not-false, le-leb, lt-leb}
 use Rattle.csv.specs.declared.fields.Measured.{Measured}
 use Rattle.csv.specs.declared.Undone.the-variants.{Length}
-use Rattle.csv.specs.Bytes.{quote}
+use Rattle.rfc4180.specs.Bytes.{quote}
 use Rattle.csv.specs.Spans.{undoneBy, undone, undoneOnExitBy, undoneOnExit}
-use Rattle.csv.specs.Laws.Fields.{field-sound}
+use Rattle.rfc4180.specs.Laws.Fields.{field-sound}
 use Rattle.csv.specs.Laws.Parts.{Sound, sound-field, unsound-field, plain-value}
 use Rattle.csv.proofs.fields.undo.Statement.{statement}
 use Rattle.csv.proofs.fields.undo.Tie as tie

@@ -8,9 +8,10 @@ use mathlib.Core.List.{_∷_}
 use Prim.Native.Nat.{_+_, _-_, _<_}
 use native.Mathlib.Omega.{arith}
 use lib.ListN.{length, drop, getD, drop-of-length-le}
-use Rattle.csv.specs.Records.{behindEnd, firstFrom, firstRecord}
+use Rattle.rfc4180.specs.Records.{behindEnd, firstFrom, firstRecord}
 use Rattle.csv.specs.Spans.{recordSpan}
-use Rattle.csv.specs.Laws.Spans.{spanOf, bytes-from, record-ended, record-unended, no-end-alone, end-outside}
+use Rattle.csv.specs.Laws.Spans.{spanOf, record-ended, record-unended, no-end-alone, end-outside}
+use Rattle.rfc4180.specs.Laws.Places.{bytes-from}
 use Rattle.csv.specs.Laws.Scans.{record-found, cr-passed}
 use Rattle.csv.proofs.records.record_at.Statement.{statement}
 use Rattle.csv.proofs.records.record_at.Tie as tie

@@ -7,7 +7,7 @@ use Prim.Native.Nat.{ℕ, _-_, _<_}
 use native.Mathlib.Omega.{arith}
 use lib.ListN.{length, getD}
 use borrow.Author.Tests.{ne-eqb}
-use Rattle.csv.specs.Bytes.{quote}
+use Rattle.rfc4180.specs.Bytes.{quote}
 use Rattle.csv.specs.Scans.{isPlain}
 use Rattle.csv.specs.Laws.Scans.{not-plain, placeOf, place-found, place-quote, place-here, place-end}
 use Rattle.csv.proofs.scans.find_outside.Statement.{statement}

@@ -4,7 +4,7 @@ use mathlib.Core.Logic.{⊎-elim}
 use mathlib.Core.Bool.{not, _&&_}
 use lib.Dec.{eqb}
 use borrow.Author.Tests.{le-leb, lt-leb}
-use Rattle.csv.specs.Bytes.{quote, inRange}
+use Rattle.rfc4180.specs.Bytes.{quote, inRange}
 use Rattle.csv.specs.Scans.{isPlain}
 use Rattle.csv.proofs.scans.is_plain.Statement.{statement}
 use Rattle.csv.proofs.scans.is_plain.Tie as tie

@@ -11,7 +11,7 @@ use lib.ListN.{length, take, drop}
 use lib.Seq.{take-append-seam}
 use borrow.Author.Needs.{needs}
 use borrow.Author.Tests.{le-leb, lt-leb}
-use Rattle.planning.specs.Modes.{overFront}
+use Rattle.planning.specs.Tables.{overFront}
 use Rattle.filecall.specs.HandOver.{numbersIf}
 use Rattle.filecall.specs.Laws.HandOver.{numbers-length, found-numbers, kept-numbers, not-handed, handed}
 use Rattle.filecall.specs.Laws.Printing.{put-front}

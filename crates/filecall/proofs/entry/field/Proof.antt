@@ -2,7 +2,7 @@
 use Prim.Native.Nat.{_≤_}
 use native.Mathlib.Omega.{arith}
 use lib.ListN.{length}
-use Rattle.planning.specs.Search.{at}
+use Rattle.planning.specs.Tables.{at}
 use Rattle.filecall.proofs.entry.field.Statement.{statement}
 use Rattle.filecall.proofs.entry.field.Tie as tie
 

@@ -7,7 +7,7 @@ use mathlib.Core.Option.{some}
 use Prim.Native.Nat.{ℕ, _-_, _≤_}
 use native.Mathlib.Omega.{arith}
 use lib.ListN.{length, drop}
-use Rattle.csv.specs.Fields.{fieldValue}
+use Rattle.rfc4180.specs.Fields.{fieldValue}
 use Rattle.csv.specs.Spans.{insideOf, holdsQuote}
 use Rattle.planfile.specs.Reading.{same}
 use Rattle.filecall.specs.Laws.Names.{same-lengths, same-end, same-passed, same-differs}

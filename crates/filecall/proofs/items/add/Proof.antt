@@ -7,7 +7,7 @@ use Prim.Native.Nat.{ℕ, _<_}
 use native.Mathlib.Omega.{arith}
 use lib.ListN.{length}
 use borrow.Author.Needs.{needs}
-use Rattle.csv.specs.Fields.{fieldValue}
+use Rattle.rfc4180.specs.Fields.{fieldValue}
 use Rattle.planfile.specs.Reading.{FourFields, soundName, unused}
 use Rattle.filecall.specs.Items.{Columns, Adds}
 use Rattle.filecall.specs.Laws.Items.{item-full, item-name, item-first, item-second, item-read, name-unsound, name-value, name-sound, appended, holding}

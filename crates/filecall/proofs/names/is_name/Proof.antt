@@ -5,7 +5,7 @@ use Prim.Native.Nat.{ℕ, suc, _+_, _*_, _-_, _≤_, _<_}
 use native.Mathlib.Omega.{arith}
 use lib.ListN.{length, take, drop, getD, length-drop, drop-of-length-le}
 use lib.Seq.{length-take-le, getD-take, getD-drop, drop-cons}
-use Rattle.planning.specs.Search.{at}
+use Rattle.planning.specs.Tables.{at}
 use Rattle.planfile.specs.Laws.Tests.{same-iff}
 use Rattle.filecall.specs.Laws.Names.{same-lengths, same-unlike}
 use Rattle.filecall.proofs.names.is_name.Statement.{statement}

@@ -6,8 +6,8 @@ use Prim.Native.Nat.{ℕ, _+_, _*_, _-_, _≤_, _<_}
 use native.Mathlib.Nat.{add-zero, add-assoc}
 use native.Mathlib.Omega.{arith}
 use lib.ListN.{length, take, drop, getD, set, drop-of-length-le}
-use Rattle.csv.specs.Laws.Spans.{bytes-from}
-use Rattle.csv.specs.Laws.Stores.{Ahead, all-ahead, one-stored, laid}
+use Rattle.rfc4180.specs.Laws.Places.{bytes-from}
+use Rattle.lines.specs.Laws.Stores.{Ahead, all-ahead, one-stored, laid}
 use Rattle.filecall.proofs.names.store.Statement.{statement}
 use Rattle.filecall.proofs.names.store.Tie as tie
 

@@ -1,7 +1,7 @@
 -- `filecall::opening::mode_of` meets its contract. Assumes nothing.
 use mathlib.Core.Path.{refl, sym, _∙_}
 use Rattle.csv.specs.Spans.{holdsQuote}
-use Rattle.csv.specs.Text.{ascii}
+use Rattle.rfc4180.specs.Text.{ascii}
 use Rattle.filecall.specs.Laws.Opening.{mode-fixed, mode-shortest, mode-neither}
 use Rattle.filecall.specs.Opening.{modeRead}
 use Rattle.filecall.proofs.opening.mode_of.Statement.{statement}

@@ -2,9 +2,9 @@
 use mathlib.Core.Path.{_≡_, refl, sym, ap, _∙_}
 use mathlib.Core.Bool.{true}
 use borrow.Author.Needs.{needs}
-use Rattle.csv.specs.Fields.{fieldValue}
+use Rattle.rfc4180.specs.Fields.{fieldValue}
 use Rattle.csv.specs.Spans.{holdsQuote}
-use Rattle.csv.specs.Text.{ascii}
+use Rattle.rfc4180.specs.Text.{ascii}
 use Rattle.planfile.specs.Reading.{same, FourFields, readMode}
 use Rattle.filecall.specs.Laws.FourFields.{Valued, cut-other, cut-four}
 use Rattle.filecall.specs.Laws.Opening.{opening-faulty, opening-kind, opening-mode, opening-minutes, opening-allowance, opening-read}

@@ -7,7 +7,7 @@ use native.Mathlib.Numerals.{add-one}
 use native.Mathlib.Omega.{arith}
 use lib.ListN.{length}
 use Rattle.planning.specs.Laws.Finite.Sums.{positives-le-bound, sgn-zero, sgn-pos}
-use Rattle.planning.specs.Search.{at}
+use Rattle.planning.specs.Tables.{at}
 use Rattle.planning.specs.Sum.{sum, positives}
 use Rattle.filecall.proofs.print.count_pieces.Statement.{statement}
 use Rattle.filecall.proofs.print.count_pieces.Tie as tie

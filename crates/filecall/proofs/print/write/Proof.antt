@@ -5,8 +5,8 @@ use Prim.Native.Nat.{ℕ, _+_, _≤_}
 use native.Mathlib.Omega.{arith}
 use denote.Ref.{now}
 use lib.ListN.{length}
-use Rattle.csv.specs.Text.{ascii}
-use Rattle.csv.specs.Writer.{writable, writtenLine, writtenFile}
+use Rattle.rfc4180.specs.Text.{ascii}
+use Rattle.rfc4180.specs.Writer.{writable, writtenLine, writtenFile}
 use Rattle.planning.specs.declared.Outcome.{Outcome}
 use Rattle.planning.specs.declared.Outcome.the-variants.{Found, None, Stopped}
 use Rattle.planfile.specs.Laws.PieceLines.{table-lines}

@@ -4,7 +4,7 @@ use mathlib.Core.List.{List, [], _∷_, _++_}
 use Prim.Native.Nat.{ℕ}
 use denote.Ref.{now}
 use borrow.Author.Needs.{needs}
-use Rattle.csv.specs.Writer.{written, writtenLine}
+use Rattle.rfc4180.specs.Writer.{written, writtenLine}
 use Rattle.planfile.specs.Numerals.{decimal}
 use Rattle.filecall.specs.Printing.{withComma}
 use Rattle.filecall.specs.Laws.Printing.{Left, all-left, room-for, then, room-for-last, then-last, lastNumber, line-parts, number-written}

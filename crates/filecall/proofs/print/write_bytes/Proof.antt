@@ -5,7 +5,7 @@ use Prim.Native.Nat.{_+_, _-_, _≤_, _<_}
 use native.Mathlib.Nat.{add-zero}
 use native.Mathlib.Omega.{arith}
 use lib.ListN.{length, drop, getD, drop-of-length-le}
-use Rattle.csv.specs.Laws.Spans.{bytes-from}
+use Rattle.rfc4180.specs.Laws.Places.{bytes-from}
 use Rattle.filecall.specs.Laws.Printing.{Left, all-left, then, all-put, put-one}
 use Rattle.filecall.proofs.print.write_bytes.Statement.{statement}
 use Rattle.filecall.proofs.print.write_bytes.Tie as tie

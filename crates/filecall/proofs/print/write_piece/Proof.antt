@@ -4,8 +4,8 @@ use mathlib.Core.List.{List, _++_}
 use Prim.Native.Nat.{ℕ}
 use denote.Ref.{now}
 use borrow.Author.Needs.{needs}
-use Rattle.csv.specs.Text.{ascii}
-use Rattle.csv.specs.Writer.{written, writable}
+use Rattle.rfc4180.specs.Text.{ascii}
+use Rattle.rfc4180.specs.Writer.{written, writable}
 use Rattle.filecall.specs.Printing.{withComma, pieceBytes}
 use Rattle.filecall.specs.Laws.Printing.{Left, all-left, room-for, then, room-for-last, then-last, lastNumber, line-parts}
 use Rattle.filecall.proofs.print.write_piece.Statement.{statement}

@@ -3,8 +3,8 @@ use mathlib.Core.Path.{refl, ap, _∙_}
 use native.Mathlib.Nat.{zero-add}
 use native.Mathlib.Omega.{arith}
 use lib.ListN.{length}
-use Rattle.csv.specs.Text.{ascii}
-use Rattle.csv.specs.Writer.{writable}
+use Rattle.rfc4180.specs.Text.{ascii}
+use Rattle.rfc4180.specs.Writer.{writable}
 use Rattle.planfile.specs.Laws.Decimals.{decimal-length}
 use Rattle.filecall.specs.Laws.Printing.{put-front}
 use Rattle.filecall.specs.Laws.RefusalPrint.{refusal-line, refusal-length, refusal-fits, refusal-long}

@@ -7,8 +7,8 @@ use denote.Ref.{now}
 use lib.ListN.{length}
 use types.Run.{miss}
 use borrow.Author.Needs.{needs}
-use Rattle.csv.specs.Bytes.{comma}
-use Rattle.csv.specs.Writer.{written}
+use Rattle.rfc4180.specs.Bytes.{comma}
+use Rattle.rfc4180.specs.Writer.{written}
 use Rattle.filecall.specs.Printing.{withComma}
 use Rattle.filecall.specs.Laws.Printing.{Left, all-left, room-for, then, room-for-last, then-last, field-next, field-put}
 use Rattle.filecall.proofs.print.write_text.Statement.{statement}

@@ -3,9 +3,9 @@ use mathlib.Core.Path.{_≡_, refl, sym, ap, _∙_}
 use mathlib.Core.Bool.{true, false}
 use native.Mathlib.Omega.{arith}
 use borrow.Author.Needs.{needs}
-use Rattle.csv.specs.Fields.{fieldValue}
+use Rattle.rfc4180.specs.Fields.{fieldValue}
 use Rattle.csv.specs.Spans.{holdsQuote}
-use Rattle.csv.specs.Text.{ascii}
+use Rattle.rfc4180.specs.Text.{ascii}
 use Rattle.planfile.specs.Reading.{same, FourFields}
 use Rattle.filecall.specs.Items.{Columns, Adds}
 use Rattle.filecall.specs.Laws.FourFields.{Valued, cut-other, cut-four}

@@ -7,7 +7,7 @@ use native.Mathlib.Omega.{arith}
 use lib.ListN.{length, take, length-drop}
 use lib.Seq.{length-take-le}
 use borrow.Author.Tests.{ltb-true, ltb-false}
-use Rattle.csv.specs.Records.{firstRecord}
+use Rattle.rfc4180.specs.Records.{firstRecord}
 use Rattle.filecall.specs.Laws.Cuts.{text-stands}
 use Rattle.filecall.specs.Laws.FourFields.{text-broken}
 use Rattle.filecall.specs.Laws.Opening.{opening-faulty as text-faulty}

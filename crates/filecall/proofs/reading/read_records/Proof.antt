@@ -6,7 +6,7 @@ use Prim.Native.Nat.{ℕ, _+_, _-_, _≤_}
 use native.Mathlib.Omega.{arith}
 use lib.ListN.{length, take, drop}
 use mir.Facts.{fits-below}
-use Rattle.csv.specs.Records.{firstRecord}
+use Rattle.rfc4180.specs.Records.{firstRecord}
 use Rattle.csv.specs.Spans.{recordSpan}
 use Rattle.filecall.specs.Laws.Cuts.{text-stands}
 use Rattle.filecall.specs.Laws.FourFields.{text-broken}

@@ -7,8 +7,8 @@ use Prim.Native.Nat.{ℕ, suc, _+_, _≤_, _<_}
 use native.Mathlib.Omega.{arith}
 use lib.ListN.{length, take, drop, List·getD-append}
 use lib.Seq.{take-append-seam, drop-append-seam}
-use Rattle.csv.specs.Grammar.{File}
-use Rattle.csv.specs.Laws.Files.{file-unique}
+use Rattle.rfc4180.specs.Grammar.{File}
+use Rattle.rfc4180.specs.Laws.Files.{file-unique}
 use Rattle.planning.specs.declared.Outcome.the-variants.{Found}
 use Rattle.planning.specs.Capacity.{capacities}
 use Rattle.planning.specs.Laws.Finite.Sums.{sum-ext, positives-ext}
@@ -16,9 +16,10 @@ use Rattle.planning.specs.Laws.Lent.{front-piece}
 use Rattle.planning.specs.Laws.Promises.{found-spares}
 use Rattle.planning.specs.Laws.Soundness.{length-spares}
 use Rattle.planning.specs.Laws.Soundness.Table.{cell-inside}
-use Rattle.planning.specs.Modes.{planned, answerOf, outcomeOf, triesOf, spares, overFront, tableBy, tableAfter, sparesBy, sparesAfter}
+use Rattle.planning.specs.Modes.{planned, answerOf, outcomeOf, triesOf, spares, tableBy, tableAfter, sparesBy, sparesAfter}
+use Rattle.planning.specs.Tables.{overFront, at, cell}
 use Rattle.planning.specs.Plan.{InRange}
-use Rattle.planning.specs.Search.{Result, found, none, stopped, at, cell}
+use Rattle.planning.specs.Search.{Result, found, none, stopped}
 use Rattle.planning.specs.Sum.{sum, positives}
 use Rattle.planfile.specs.FileCall.{printed}
 use Rattle.planfile.specs.FilePlan.{FilePlan, unnamed}

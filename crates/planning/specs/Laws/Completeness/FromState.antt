@@ -9,7 +9,8 @@ use native.Mathlib.Omega.{arith}
 use lib.ListN.{length, set, length-set}
 use lib.Seq.{getD-set-same, getD-set-other}
 use Rattle.planning.specs.Cutting.{Fits}
-use Rattle.planning.specs.Search.{State, at, smallest, canLay, canCut, afterLaying, afterCutting}
+use Rattle.planning.specs.Search.{State, smallest, canLay, canCut, afterLaying, afterCutting}
+use Rattle.planning.specs.Tables.{at}
 use Rattle.planning.specs.Laws.Finite.Decisions.{at-or-else, equal-or-not}
 use Rattle.planning.specs.Laws.Finite.Extremes.{Extreme, largest}
 use Rattle.planning.specs.Laws.Completeness.Removal.{without, laid-fits, cut-fits, whole-on-one}

@@ -9,7 +9,8 @@ use lib.Seq.{getD-set-same, getD-set-other}
 use native.Mathlib.Omega.{arith}
 use Rattle.planning.specs.Laws.Finite.Decisions.{le-or-lt}
 use Rattle.planning.specs.Laws.Finite.Sums.{sum-front, positives-one, positives-front}
-use Rattle.planning.specs.Search.{at, total}
+use Rattle.planning.specs.Search.{total}
+use Rattle.planning.specs.Tables.{at}
 use Rattle.planning.specs.Sum.{sum, sgn, positives}
 
 -- past its end a list has 0, so a place with more is inside

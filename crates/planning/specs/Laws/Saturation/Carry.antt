@@ -6,8 +6,7 @@ use Prim.Native.Nat.{ℕ, zero, suc, _+_, _≤_, _<_}
 use native.Mathlib.Omega.{arith}
 use Rattle.planning.specs.Laws.Finite.Decisions.{equal-or-not, le-or-lt, at-or-else}
 use Rattle.planning.specs.Laws.Finite.Update.{only-same, only-other}
-use Rattle.planning.specs.Laws.Saturation.Moves.{Moved, moved-else, moved-zero, moved-trans, moved-none}
-use Rattle.planning.specs.Laws.Saturation.Moves.{Traded, trade, traded-kept, Kept, kept-none, kept-trans}
+use Rattle.planning.specs.Laws.Saturation.Moves.{Moved, moved-else, moved-zero, moved-trans, moved-none, Traded, trade, traded-kept, Kept, kept-none, kept-trans}
 
 -- A delivery other than j has a piece on engine v and one on an engine of higher rank.
 pub record Link (engines deliveries : ℕ) (x : ℕ → ℕ → ℕ) (j : ℕ) (rank : ℕ → ℕ) (v : ℕ) : Type 0 where

@@ -9,7 +9,8 @@ use native.Mathlib.Omega.{arith}
 use lib.ListN.{length, set, length-set}
 use lib.Seq.{getD-set-same, getD-set-other}
 use Rattle.planning.specs.Sum.{positives}
-use Rattle.planning.specs.Search.{State, at, Step, finished, fills, lays, cuts, stepOf, canLay, afterLaying, canCut, afterCutting, Result, withPiece, orElse, Allowance, Permission, granted, exceeds, permission, oneEngine, eachEngine, cell, perform, size, searchWithin, searchFrom}
+use Rattle.planning.specs.Search.{State, Step, finished, fills, lays, cuts, stepOf, canLay, afterLaying, canCut, afterCutting, Result, withPiece, orElse, Allowance, Permission, granted, exceeds, permission, oneEngine, eachEngine, perform, size, searchWithin, searchFrom}
+use Rattle.planning.specs.Tables.{at, cell}
 use Rattle.planning.specs.Laws.Finite.Decisions.{at-or-else}
 use Rattle.planning.specs.Laws.Search.Steps.{Chosen, step-lays, step-fills, step-cuts, canLay-true, canCut-true}
 use Rattle.planning.specs.Laws.Finite.Lists.{inside-of}

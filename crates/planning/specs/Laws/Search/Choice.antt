@@ -9,7 +9,8 @@ use native.Mathlib.Nat.{mul-le-mul-left, le-of-mul-le-mul-left}
 use native.Mathlib.Omega.{arith}
 use lib.Dec.{ltb, eqb}
 use borrow.Author.Tests.{ltb-true, ltb-false, le-ltb}
-use Rattle.planning.specs.Search.{State, at, comesFirst, bulkier, Choice, noneLeft, chosen, replaces, withDelivery, bulkiestOf}
+use Rattle.planning.specs.Search.{State, comesFirst, bulkier, Choice, noneLeft, chosen, replaces, withDelivery, bulkiestOf}
+use Rattle.planning.specs.Tables.{at}
 use Rattle.planning.specs.Laws.Finite.Decisions.{below-next}
 
 true-unless : (b : Bool) → (b ≡ false → ⊥) → b ≡ true

@@ -10,7 +10,8 @@ use native.Mathlib.Omega.{arith}
 use lib.Dec.{ltb, leb, eqb}
 use lib.ListN.{length}
 use borrow.Author.Tests.{ltb-true, ltb-false, leb-true, leb-false, eqb-true, eqb-false, lt-ltb, le-leb}
-use Rattle.planning.specs.Search.{State, at, comesFirst, bulkier, Choice, noneLeft, chosen, bulkiestOf, smaller, smallestOf, smallest, Step, finished, fills, lays, cuts, stepBy, stepWith, stepOf, canLay, canCut}
+use Rattle.planning.specs.Search.{State, comesFirst, bulkier, Choice, noneLeft, chosen, bulkiestOf, smaller, smallestOf, smallest, Step, finished, fills, lays, cuts, stepBy, stepWith, stepOf, canLay, canCut}
+use Rattle.planning.specs.Tables.{at}
 use Rattle.planning.specs.Laws.Search.Choice.{FirstBulkiest, chosen-first, none-left}
 use Rattle.planning.specs.Laws.Finite.Decisions.{le-or-lt, below-next}
 

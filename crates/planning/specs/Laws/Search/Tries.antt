@@ -12,7 +12,8 @@ use lib.ListN.{length}
 use borrow.Author.Tests.{ltb-true, ltb-false}
 use Rattle.planning.specs.declared.Outcome.the-variants.{Stopped}
 use Rattle.planning.specs.Modes.{outcomeOf, triesOf}
-use Rattle.planning.specs.Search.{State, at, total, Step, finished, fills, lays, cuts, stepOf, canLay, afterLaying, canCut, afterCutting, Result, found, none, stopped, withPiece, orElse, noPieces, upTo, unlimited, permitted, permission, oneEngine, eachEngine, cell, perform, size, searchWithin, searchFrom, unlessTooMuch, searched}
+use Rattle.planning.specs.Search.{State, total, Step, finished, fills, lays, cuts, stepOf, canLay, afterLaying, canCut, afterCutting, Result, found, none, stopped, withPiece, orElse, noPieces, upTo, unlimited, permitted, permission, oneEngine, eachEngine, perform, size, searchWithin, searchFrom, unlessTooMuch, searched}
+use Rattle.planning.specs.Tables.{at, cell}
 use Rattle.planning.specs.Laws.Finite.Decisions.{le-or-lt}
 
 -- `whole`, with no end of tries, ends with at least the tries made before it and is not stopped; `limited`, with the allowance,

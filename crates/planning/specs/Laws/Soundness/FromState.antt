@@ -20,8 +20,8 @@ use Rattle.planning.specs.Laws.Soundness.StraightFill.{all-others, fill-
 use Rattle.planning.specs.Laws.Finite.Sums.{sum-one, sum-zero, sgn-le-one, positives-zero}
 use Rattle.planning.specs.Laws.Finite.Lists.{inside-of, positives-set}
 use Rattle.planning.specs.Laws.Soundness.Table.{cell-inside, entry-of-zeros, piece-of-zeros}
-use Rattle.planning.specs.Modes.{pieceIn}
-use Rattle.planning.specs.Search.{State, at, total, Step, finished, fills, lays, cuts, stepOf, smallest, canLay, afterLaying, canCut, afterCutting, straightFill, Result, found, cell, withPiece, Allowance, perform, size, searchFrom}
+use Rattle.planning.specs.Tables.{pieceIn, at, cell}
+use Rattle.planning.specs.Search.{State, total, Step, finished, fills, lays, cuts, stepOf, smallest, canLay, afterLaying, canCut, afterCutting, straightFill, Result, found, withPiece, Allowance, perform, size, searchFrom}
 use Rattle.planning.specs.Sum.{positives}
 
 -- every delivery left has a limit of at least 1, and the rests add up to no more than what remains of the engines

@@ -10,8 +10,7 @@ use Rattle.planning.specs.Cutting.{Fits}
 use Rattle.planning.specs.Laws.Finite.Decisions.{at-or-else}
 use Rattle.planning.specs.Laws.Finite.Sums.{sum-ext, sum-one, entry-le-sum, sgn-le-one, positives-ext, positives-one}
 use Rattle.planning.specs.Laws.Soundness.Table.{cell-inside, piece-set-same, piece-set-other}
-use Rattle.planning.specs.Modes.{pieceIn}
-use Rattle.planning.specs.Search.{cell}
+use Rattle.planning.specs.Tables.{pieceIn, cell}
 use Rattle.planning.specs.Sum.{sum, positives}
 
 -- a delivery with amount 0 has no piece

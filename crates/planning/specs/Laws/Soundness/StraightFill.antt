@@ -12,8 +12,8 @@ use Rattle.planning.specs.Laws.Finite.Decisions.{le-or-lt}
 use Rattle.planning.specs.Laws.Finite.Sums.{sum-ext, sgn-zero, sgn-pos, sgn-le-one, sgn-mono, positives-ext, positives-zero, sum-front}
 use Rattle.planning.specs.Laws.Finite.Lists.{total-cons, positives-cons, positives-append}
 use Rattle.planning.specs.Laws.Soundness.Table.{piece-of-row, piece-after-row}
-use Rattle.planning.specs.Modes.{pieceIn}
-use Rattle.planning.specs.Search.{at, total, drawn, undrawn, straightFill}
+use Rattle.planning.specs.Tables.{pieceIn, at}
+use Rattle.planning.specs.Search.{total, drawn, undrawn, straightFill}
 use Rattle.planning.specs.Sum.{sum, sgn, positives}
 
 -- One row: what a delivery with rest r draws from the engines, and what then remains of them.

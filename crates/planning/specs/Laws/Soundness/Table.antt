@@ -10,8 +10,7 @@ use lib.Seq.{getD-set-same, getD-set-other, getD-append-add}
 use native.Mathlib.Nat.{mul-le-mul-right, suc-mul}
 use native.Mathlib.Omega.{arith}
 use Rattle.planning.specs.Laws.Finite.Decisions.{le-or-lt}
-use Rattle.planning.specs.Modes.{pieceIn}
-use Rattle.planning.specs.Search.{at, cell}
+use Rattle.planning.specs.Tables.{pieceIn, at, cell}
 
 -- the row of an earlier delivery ends before that of a later one begins
 row-before : (engines p q : ℕ) → p < q → p * engines + engines ≤ q * engines

@@ -5,7 +5,7 @@ use Prim.Native.Nat.{ℕ, _+_, _-_, _*_, _%_, _^_, _<_}
 use mathlib.Core.Path.{_≡_, refl, ap}
 use native.Mathlib.Omega.{arith}
 use lib.ListN.{set}
-use Rattle.planning.specs.Search.{at}
+use Rattle.planning.specs.Tables.{at}
 use Rattle.allocation.specs.Laws.Sets.{shifted, shifted-le, with-below}
 use Rattle.allocation.specs.Laws.Layout.Cutting.{cut-off}
 use Rattle.allocation.specs.Laws.Layout.Serving.{open-serves-none, serving-below}

@@ -1,0 +1,77 @@
+-- `lines::field::write_plain` meets its contract. The invariant of its loop: storing the bytes left from the present place on makes the same
+-- output as storing the whole value at the entry. The measure is what is left of the value. Assumes nothing.
+use mathlib.Core.Path.{_≡_, _∙_}
+use mathlib.Core.List.{List, _++_}
+use Prim.Native.Nat.{ℕ, _<_, _≤_, _+_, _-_}
+use native.Mathlib.Nat.{add-zero, add-assoc}
+use native.Mathlib.Omega.{arith}
+use lib.ListN.{length, take, drop, getD, set, drop-of-length-le}
+use denote.Ref.{now}
+use Rattle.rfc4180.specs.Laws.Places.{bytes-from}
+use Rattle.lines.specs.Laws.Stores.{Ahead, all-ahead, one-stored, laid}
+use Rattle.lines.proofs.field.write_plain.Statement.{statement}
+use Rattle.lines.proofs.field.write_plain.Tie as tie
+
+abbrev Inv-loop : tie.InvT-loop
+Inv-loop value out₀ at i₀ out i =
+    (i ≤ length value) × Ahead (drop i value) (at + i) out out₀ at value
+
+abbrev μ-loop : tie.MeasureT-loop
+μ-loop value out₀ at i₀ out i = length value - i
+
+-- a turn stores the next byte of the value
+one-more : (value out lent : List ℕ) (at i : ℕ) → i < length value → Ahead (drop i value) (at + i) out lent at value
+    → Ahead (drop (i + 1) value) (at + (i + 1)) (set out (at + i) (getD value i 0)) lent at value
+one-more value out lent at i h left = rw (← add-assoc at i 1) (one-stored (rw (bytes-from value i h) at left))
+
+-- at the end all of it is stored
+all-stored : (value lent out : List ℕ) (at i : ℕ) → length value ≤ i → at + length value ≤ length lent → Ahead (drop i value) (at + i) out lent at value
+    → out ≡ take at lent ++ (value ++ drop (at + length value) lent)
+all-stored value lent out at i past room left = (rw (drop-of-length-le value {i = i} past) at (left .makes)) ∙ laid value lent at room
+
+loop-holds : tie.Need-loop-holds Inv-loop μ-loop
+loop-holds c = (omega arith, rw add-zero (all-ahead _ _ _ (c .pre)))
+
+shared-slice-read-out : tie.Need-shared-slice-read-out Inv-loop μ-loop
+shared-slice-read-out c = omega arith
+
+add-out : tie.Need-add-out Inv-loop μ-loop
+add-out c = omega arith
+
+slice-write-out : tie.Need-slice-write-out Inv-loop μ-loop
+slice-write-out c = omega arith
+
+add-i : tie.Need-add-i Inv-loop μ-loop
+add-i c = omega arith
+
+loop-less : tie.Need-loop-less Inv-loop μ-loop
+loop-less c = omega arith
+
+loop-again : tie.Need-loop-again Inv-loop μ-loop
+loop-again c =
+    let at-loop = c .before .before in
+    (omega arith, one-more _ _ _ _ _ (c .before .loop-test .taken) (at-loop .loop .inv .1))
+
+same-length : tie.Need-same-length Inv-loop μ-loop
+same-length c = c .before .loop .inv .1 .keeps
+
+returns : tie.Need-returns Inv-loop μ-loop
+returns c =
+    let args = c .before .before .args in
+    all-stored (now (args .value)) (now (args .out)) _ _ _ (c .loop-test .left) (c .before .before .pre) (c .before .loop .inv .1)
+
+pub write-plain-spec : {M : Type 1} → statement M
+write-plain-spec =
+    tie.close
+    (tie.spec
+    Inv-loop
+    μ-loop
+    loop-holds
+    shared-slice-read-out
+    add-out
+    slice-write-out
+    add-i
+    loop-less
+    loop-again
+    same-length
+    returns)

@@ -1,0 +1,5 @@
+-- What is proved about the definitions beside this file.
+pub mod Bounds
+pub mod RoundTrip
+pub mod Stores
+pub mod Values

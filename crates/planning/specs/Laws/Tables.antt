@@ -1,0 +1,40 @@
+-- Lists given place by place: their lengths and entries.
+-- Assumes nothing.
+use mathlib.Core.Path.{_≡_, refl, ap, ap₂}
+use mathlib.Core.List.{List, [], _∷_, _++_, map}
+use Prim.Native.Nat.{ℕ, zero, suc, _<_}
+use native.Mathlib.Omega.{arith}
+use lib.ListN.{length, getD}
+use Rattle.planning.specs.Tables.{at, listed}
+
+-- the list f 0, .., f (n - 1) has n items, and f k at place k
+pub length-listed : {A : Type 0} (n : ℕ) (f : ℕ → A) → length (listed n f) ≡ n
+unfolding listed
+length-listed zero f = refl
+length-listed (suc n) f = ap suc (length-listed n (λ k. f (suc k)))
+
+pub listed-at : {A : Type 0} (n k : ℕ) (f : ℕ → A) (other : A) → k < n → getD (listed n f) k other ≡ f k
+unfolding listed
+listed-at zero k f other l = absurd (omega arith)
+listed-at (suc n) zero f other l = refl
+listed-at (suc n) (suc k) f other l = listed-at n k (λ j. f (suc j)) other (omega arith)
+
+pub at-listed : (n : ℕ) (f : ℕ → ℕ) (i : ℕ) → i < n → at (listed n f) i ≡ f i
+at-listed n f i l = listed-at n i f 0 l
+
+-- place by place the same, and with one place more
+pub listed-same : {A : Type 0} (n : ℕ) (f g : ℕ → A) → ((k : ℕ) → k < n → f k ≡ g k) → listed n f ≡ listed n g
+unfolding listed
+listed-same zero f g e = refl
+listed-same (suc n) f g e = ap₂ _∷_ (e 0 (omega arith)) (listed-same n (λ k. f (suc k)) (λ k. g (suc k)) (λ k l. e (suc k) (omega arith)))
+
+pub listed-last : {A : Type 0} (n : ℕ) (f : ℕ → A) → listed (suc n) f ≡ listed n f ++ f n ∷ []
+unfolding listed
+listed-last zero f = refl
+listed-last (suc n) f = ap (λ (items : List _). f 0 ∷ items) (listed-last n (λ k. f (suc k)))
+
+-- each item changed
+pub map-listed : {A B : Type 0} (h : A → B) (n : ℕ) (f : ℕ → A) → map h (listed n f) ≡ listed n (λ k. h (f k))
+unfolding listed
+map-listed h zero f = refl
+map-listed h (suc n) f = ap (λ (items : List _). h (f 0) ∷ items) (map-listed h n (λ k. f (suc k)))
