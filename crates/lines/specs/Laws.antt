@@ -1,5 +1,4 @@
 -- What is proved about the definitions beside this file.
 pub mod Bounds
 pub mod RoundTrip
-pub mod Stores
 pub mod Values

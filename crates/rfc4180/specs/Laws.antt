@@ -5,4 +5,5 @@ pub mod Files
 pub mod Places
 pub mod Quotes
 pub mod Records
+pub mod Stores
 pub mod Writer

@@ -3,11 +3,10 @@
 use mathlib.Core.Path.{_≡_, _∙_}
 use mathlib.Core.List.{List, _++_}
 use Prim.Native.Nat.{ℕ, _+_, _*_, _-_, _≤_, _<_}
-use native.Mathlib.Nat.{add-zero, add-assoc}
+use native.Mathlib.Nat.{add-zero}
 use native.Mathlib.Omega.{arith}
-use lib.ListN.{length, take, drop, getD, set, drop-of-length-le}
-use Rattle.rfc4180.specs.Laws.Places.{bytes-from}
-use Rattle.lines.specs.Laws.Stores.{Ahead, all-ahead, one-stored, laid}
+use lib.ListN.{length, take, drop, drop-of-length-le}
+use Rattle.rfc4180.specs.Laws.Stores.{Ahead, all-ahead, one-more, laid}
 use Rattle.filecall.proofs.names.store.Statement.{statement}
 use Rattle.filecall.proofs.names.store.Tie as tie
 
@@ -16,11 +15,6 @@ Inv-loop names₀ k bytes from i₀ names i = (i ≤ 16) × Ahead (drop i bytes)
 
 abbrev μ-loop : tie.MeasureT-loop
 μ-loop names₀ k bytes from i₀ names i = 16 - i
-
--- a turn stores the next byte of the name
-one-more : (bytes names lent : List ℕ) (at i : ℕ) → i < length bytes → Ahead (drop i bytes) (at + i) names lent at bytes
-    → Ahead (drop (i + 1) bytes) (at + (i + 1)) (set names (at + i) (getD bytes i 0)) lent at bytes
-one-more bytes names lent at i h left = rw (← add-assoc at i 1) (one-stored (rw (bytes-from bytes i h) at left))
 
 -- at the end all of it is stored
 all-stored : (bytes lent names : List ℕ) (at i : ℕ) → length bytes ≡ 16 → 16 ≤ i → at + 16 ≤ length lent → Ahead (drop i bytes) (at + i) names lent at bytes

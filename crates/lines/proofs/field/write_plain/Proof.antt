@@ -3,12 +3,11 @@
 use mathlib.Core.Path.{_≡_, _∙_}
 use mathlib.Core.List.{List, _++_}
 use Prim.Native.Nat.{ℕ, _<_, _≤_, _+_, _-_}
-use native.Mathlib.Nat.{add-zero, add-assoc}
+use native.Mathlib.Nat.{add-zero}
 use native.Mathlib.Omega.{arith}
-use lib.ListN.{length, take, drop, getD, set, drop-of-length-le}
+use lib.ListN.{length, take, drop, drop-of-length-le}
 use denote.Ref.{now}
-use Rattle.rfc4180.specs.Laws.Places.{bytes-from}
-use Rattle.lines.specs.Laws.Stores.{Ahead, all-ahead, one-stored, laid}
+use Rattle.rfc4180.specs.Laws.Stores.{Ahead, all-ahead, one-more, laid}
 use Rattle.lines.proofs.field.write_plain.Statement.{statement}
 use Rattle.lines.proofs.field.write_plain.Tie as tie
 
@@ -18,11 +17,6 @@ Inv-loop value out₀ at i₀ out i =
 
 abbrev μ-loop : tie.MeasureT-loop
 μ-loop value out₀ at i₀ out i = length value - i
-
--- a turn stores the next byte of the value
-one-more : (value out lent : List ℕ) (at i : ℕ) → i < length value → Ahead (drop i value) (at + i) out lent at value
-    → Ahead (drop (i + 1) value) (at + (i + 1)) (set out (at + i) (getD value i 0)) lent at value
-one-more value out lent at i h left = rw (← add-assoc at i 1) (one-stored (rw (bytes-from value i h) at left))
 
 -- at the end all of it is stored
 all-stored : (value lent out : List ℕ) (at i : ℕ) → length value ≤ i → at + length value ≤ length lent → Ahead (drop i value) (at + i) out lent at value

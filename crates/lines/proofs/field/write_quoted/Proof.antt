@@ -12,7 +12,7 @@ use lib.Seq.{sets}
 use denote.Ref.{now}
 use Rattle.rfc4180.specs.Bytes.{quote}
 use Rattle.rfc4180.specs.Writer.{doubled, written, needsQuotes}
-use Rattle.lines.specs.Laws.Stores.{Ahead, all-ahead, one-stored, place, place-lent, laid}
+use Rattle.rfc4180.specs.Laws.Stores.{Ahead, all-ahead, one-stored, place, place-lent, laid}
 use Rattle.lines.specs.Laws.Values.{doubled-quote, doubled-other, written-quoted}
 use Rattle.lines.proofs.field.write_quoted.Statement.{statement}
 use Rattle.lines.proofs.field.write_quoted.Tie as tie

@@ -1,11 +1,13 @@
 -- Bytes that a loop stores in an output one after the other, from a place on. Assumes nothing.
 use mathlib.Core.Path.{_≡_, refl, _∙_}
 use Prim.Native.Nat.{ℕ, _+_, _≤_, _<_}
+use native.Mathlib.Nat.{add-assoc}
 use native.Mathlib.Numerals.{add-one}
 use native.Mathlib.Omega.{arith}
 use mathlib.Core.List.{List, _∷_, _++_, append-assoc}
-use lib.ListN.{length, take, drop, set, length-set}
+use lib.ListN.{length, take, drop, getD, set, length-set}
 use lib.Seq.{sets, sets-eq}
+use Rattle.rfc4180.specs.Laws.Places.{bytes-from}
 
 -- the bytes that are still to be stored in an output: it is as long as the output lent at first, they fit, and with them it is what
 -- storing all the bytes in that makes of it
@@ -32,6 +34,11 @@ one-stored {b} {bytes} {out} {lent} {all} {to} {at} left =
       fits = simp length-set (omega (arith, left .fits));
       makes = rw add-one (left .makes);
     }
+
+-- a turn of a loop stores the byte at its place
+pub one-more : (bytes out lent : List ℕ) (at i : ℕ) → i < length bytes → Ahead (drop i bytes) (at + i) out lent at bytes
+    → Ahead (drop (i + 1) bytes) (at + (i + 1)) (set out (at + i) (getD bytes i 0)) lent at bytes
+one-more bytes out lent at i h left = rw (← add-assoc at i 1) (one-stored (rw (bytes-from bytes i h) at left))
 
 -- what storing some bytes makes of an output
 pub laid : (bytes lent : List ℕ) (at : ℕ) → at + length bytes ≤ length lent → sets lent at bytes ≡ take at lent ++ (bytes ++ drop (at + length bytes) lent)
