@@ -1,23 +1,6 @@
 -- Laws of the definitions that the contracts cite.
 pub mod Bisection
 pub mod Calls
-pub mod Checks
-pub mod Choice
-pub mod Documents
-pub mod Filling
-pub mod FirstSet
-pub mod Front
-pub mod Layout
-pub mod Lent
-pub mod Lists
-pub mod Members
 pub mod Modes
-pub mod Padded
-pub mod Paired
-pub mod Passes
-pub mod Promises
-pub mod Rounds
-pub mod SearchAt
-pub mod Sets
-pub mod Slots
-pub mod Start
+pub mod Searches
+pub mod Spares

@@ -1,8 +1,3 @@
--- The allocation: what the code's state stands for, and what its functions promise.
-pub mod Checks
+-- The allocation: what its inner functions return and leave, and what is proved about them.
+pub mod Ends
 pub mod Laws
-pub mod Layout
-pub mod Numbers
-pub mod Promises
-pub mod Sets
-pub mod Steps

@@ -1,145 +1,51 @@
 // Fixed and shortest.
 use crate::capacity;
-use crate::search;
-use crate::search::Ended;
-use crate::state::State;
 use planning::Answer;
+use planning::MOST_CELLS;
 use planning::Mode;
 use planning::Outcome;
+use planning::Plan;
+use planning::copy;
+use search::Ended;
+use search::search;
 ghost use mathlib.Core.Path.{_≡_};
-ghost use Prim.Native.Nat.{ℕ, _*_, _≤_, _<_};
-ghost use lib.Dec.{ltb};
-ghost use lib.ListN.{length, take};
-ghost use Rattle.planning.specs.declared.Mode.{Mode as Modes};
-ghost use Rattle.planning.specs.declared.Mode.the-variants.{Shortest};
-ghost use Rattle.planning.specs.declared.Outcome.the-variants.{Found};
+ghost use Prim.Native.Nat.{_*_, _≤_};
+ghost use lib.ListN.{length};
+ghost use Rattle.planning.specs.Bounds.{mostMinutes};
+ghost use Rattle.planning.specs.ByValue.{planIn, Usable};
 ghost use Rattle.planning.specs.Modes.{searchAt, bisect as bisected, shortest as shortestOf, planned, answerOf};
-ghost use Rattle.planning.specs.Search.{found, total};
-ghost use Rattle.planning.specs.Tables.{at, padded};
-ghost use Rattle.allocation.specs.Numbers.{planOn, Usable, answerBy};
-ghost use Rattle.allocation.specs.Sets.{has};
-ghost use Rattle.allocation.specs.Steps.{endedOf, written};
+ghost use Rattle.planning.specs.Search.{Result, found};
+ghost use Rattle.search.specs.Promises.{endedOf};
+ghost use Rattle.allocation.specs.Ends.{Ends, Answers, AnswersFound};
 
-fn wide(x: u32) -> u64
-    ensures { λ r. ⌜ r ≡ x ⌝ }
-{
-    x as u64
-}
-
-// The sum of the capacities.
-fn total_capacity(capacities: &[u32; 12]) -> u64
-    requires { ⌜ (length (now capacities) ≡ 12) × ((i : ℕ) → i < 12 → at (now capacities) i ≤ 1000000000) ⌝ }
-    ensures { λ r. ⌜ r ≡ total (now (capacities .entry)) ⌝ }
-{
-    let mut sum: u64 = 0;
-    let mut i = 0;
-    while i < 12 {
-        sum += wide(capacities[i]);
-        i += 1;
-    }
-    sum
-}
-
-// The sum of the energies.
-fn total_energy(energies: &[u64]) -> u64
-    requires { ⌜ (length (now energies) ≤ 64) × ((p : ℕ) → p < length (now energies) → at (now energies) p ≤ 1000000000) ⌝ }
-    ensures { λ r. ⌜ r ≡ total (now (energies .entry)) ⌝ }
-{
-    let mut sum: u64 = 0;
-    let mut p = 0;
-    while p < energies.len() {
-        sum += energies[p];
-        p += 1;
-    }
-    sum
-}
-
-// The engines with a capacity above 0, as a set.
-fn open_engines(capacities: &[u32; 12]) -> u16
-    requires { ⌜ length (now capacities) ≡ 12 ⌝ }
-    ensures { λ r. ⌜ ((i : ℕ) → has r i ≡ ltb 0 (at (now (capacities .entry)) i)) ⌝ }
-{
-    let mut open: u16 = 0;
-    let mut i = 0;
-    while i < 12 {
-        if capacities[i] != 0 {
-            open = open + (1u16 << i);
-        }
-        i += 1;
-    }
-    open
-}
-
-// The first n deliveries, as a set.
-fn first_deliveries(n: usize) -> u64
-    requires { ⌜ n ≤ 64 ⌝ }
-    ensures { λ r. ⌜ ((p : ℕ) → has r p ≡ ltb p n) ⌝ }
-{
-    if n == 64 {
-        18446744073709551615
-    } else {
-        (1u64 << n) - 1
-    }
-}
-
-// The search for that many minutes: step A, then the others from the first state.
-fn search_at<'a, 'b>(
-    minutes: u64,
-    allowance: u32,
-    watts: &'a [u64],
-    fuels: &'a [u64],
-    energies: &'a [u64],
-    limits: &'a [u64],
-    energy: &'b [u32; 64],
-    limit: &'b [u8; 64],
-    table: &mut [u64],
-) -> Ended
+// The search for that many minutes.
+fn search_at(plan: Plan, minutes: u64, table: &mut [u64]) -> Ended
     requires { ⌜
-        Usable (now watts) (now fuels) (now energies) (now limits)
-        × (minutes ≤ 10080)
-        × (allowance ≤ 1000000000)
-        × (now energy ≡ padded 64 (now energies))
-        × (now limit ≡ padded 64 (now limits))
-        × (length (now table) ≡ length (now energies) * length (now watts))
+        Usable plan
+        × (minutes ≤ mostMinutes)
+        × (length (now table) ≡ plan .deliveries .count * plan .engines .count)
         ⌝ }
-    ensures ended { λ r. ⌜
-        ((mode : Modes) (given : ℕ)
-        → r ≡ endedOf (searchAt (planOn mode given allowance (now (watts .entry)) (now (fuels .entry)) (now (energies .entry)) (now (limits .entry))) minutes))
-        ⌝ }
-    ensures table { λ r. ⌜
-        ((mode : Modes) (given : ℕ)
-        → now (table .exit) ≡ written (searchAt (planOn mode given allowance (now (watts .entry)) (now (fuels .entry)) (now (energies .entry)) (now (limits .entry))) minutes) (now (table .entry)))
-        ⌝ }
+    ensures { λ r. ⌜ Ends (searchAt (planIn plan) minutes) (now (table .entry)) r (now (table .exit)) ⌝ }
 {
-    let capacities = capacity::capacities(watts, fuels, minutes);
-    if total_capacity(&capacities) < total_energy(energies) {
-        return Ended::None(0);
-    }
-    let left = first_deliveries(energies.len());
-    let open = open_engines(&capacities);
-    let first = State {
-        left,
-        untouched: left,
-        amount: capacities,
-        served: [0u16; 12],
-        row: [0u8; 12],
-        open,
-    };
-    search::choose(
-        first,
-        0,
-        allowance,
-        watts.len(),
-        energies.len(),
-        energy,
-        limit,
+    let engines = plan.engines;
+    let deliveries = plan.deliveries;
+    let count = engines.count;
+    let rows = deliveries.count;
+    let capacities = capacity::capacities(engines, minutes);
+    let energy = deliveries.energy;
+    let limit = deliveries.limit;
+    search(
+        &capacities[..count],
+        &energy[..rows],
+        &limit[..rows],
+        plan.allowance,
         table,
     )
 }
 
-// The answer that a search ends in.
+// The answer of a search for that many minutes. A plan that passed the checks is never out of the search's range.
 fn answer_of(ended: Ended, minutes: u64) -> Answer
-    ensures { λ r. ⌜ r ≡ answerBy ended minutes ⌝ }
+    ensures { λ r. ⌜ ((result : Result) → ended ≡ endedOf result → r ≡ answerOf (record { minutes = minutes; result = result })) ⌝ }
 {
     match ended {
         Ended::Found(t) => Answer {
@@ -157,71 +63,30 @@ fn answer_of(ended: Ended, minutes: u64) -> Answer
             minutes,
             tries: t as u64,
         },
+        Ended::OutOfRange => Answer {
+            outcome: Outcome::Stopped,
+            minutes,
+            tries: 0,
+        },
     }
 }
 
-// Copies the front of a scratch table.
-fn copy(from: &[u64; 768], to: &mut [u64])
-    requires { ⌜ (length (now from) ≡ 768) × (length (now to) ≤ 768) ⌝ }
-    ensures { λ r. ⌜ now (to .exit) ≡ take (length (now (to .entry))) (now (from .entry)) ⌝ }
-{
-    let mut i = 0;
-    while i < to.len() {
-        to[i] = from[i];
-        i += 1;
-    }
-}
-
-// The bisection between a time that will not do (or 0) and one that does, whose search took those tries and left that table. Probes
-// write the scratch table alone: on found it holds the table of the time answered.
-fn bisect<'a, 'b>(
-    high: u64,
-    tries: u32,
-    allowance: u32,
-    watts: &'a [u64],
-    fuels: &'a [u64],
-    energies: &'a [u64],
-    limits: &'a [u64],
-    energy: &'b [u32; 64],
-    limit: &'b [u8; 64],
-    scratch: &mut [u64],
-) -> Answer
+// The bisection between 0 and the plan's minutes, whose search took those tries and left that table. Probes write the scratch table alone:
+// on found it holds the table of the time answered.
+fn bisect(plan: Plan, tries: u32, scratch: &mut [u64]) -> Answer
     requires { ⌜
-        Usable (now watts) (now fuels) (now energies) (now limits)
-        × (high ≤ 10080)
-        × (allowance ≤ 1000000000)
-        × (now energy ≡ padded 64 (now energies))
-        × (now limit ≡ padded 64 (now limits))
-        × (length (now scratch) ≡ length (now energies) * length (now watts))
-        × ((mode : Modes) (given : ℕ) → searchAt (planOn mode given allowance (now watts) (now fuels) (now energies) (now limits)) high ≡ found tries (now scratch))
+        Usable plan
+        × (length (now scratch) ≡ plan .deliveries .count * plan .engines .count)
+        × (searchAt (planIn plan) (plan .minutes) ≡ found tries (now scratch))
         ⌝ }
-    ensures answer { λ r. ⌜
-        ((mode : Modes) (given : ℕ)
-        → r ≡ answerOf (bisected high (planOn mode given allowance (now (watts .entry)) (now (fuels .entry)) (now (energies .entry)) (now (limits .entry))) 0 high))
-        ⌝ }
-    ensures table { λ r. ⌜
-        ((mode : Modes) (given : ℕ)
-        → r .outcome ≡ Found
-        → now (scratch .exit)
-        ≡ written (bisected high (planOn mode given allowance (now (watts .entry)) (now (fuels .entry)) (now (energies .entry)) (now (limits .entry))) 0 high .result) (now (scratch .entry)))
-        ⌝ }
+    ensures { λ r. ⌜ AnswersFound (bisected (plan .minutes) (planIn plan) 0 (plan .minutes)) r (now (scratch .exit)) ⌝ }
 {
     let mut low: u64 = 0;
-    let mut high = high;
+    let mut high = plan.minutes;
     let mut tries = tries;
     while 1 < high - low {
         let t = (low + high) / 2;
-        let ended = search_at(
-            t,
-            allowance,
-            watts,
-            fuels,
-            energies,
-            limits,
-            energy,
-            limit,
-            &mut *scratch,
-        );
+        let ended = search_at(plan, t, &mut *scratch);
         match ended {
             Ended::Found(n) => {
                 high = t;
@@ -230,145 +95,59 @@ fn bisect<'a, 'b>(
             Ended::None(_) => {
                 low = t;
             }
-            Ended::Stopped(n) => {
-                return Answer {
-                    outcome: Outcome::Stopped,
-                    minutes: t,
-                    tries: n as u64,
-                };
+            _ => {
+                return answer_of(ended, t);
             }
         }
     }
-    Answer {
-        outcome: Outcome::Found,
-        minutes: high,
-        tries: tries as u64,
-    }
+    answer_of(Ended::Found(tries), high)
 }
 
-// The shortest time.
-fn shortest<'a, 'b>(
-    minutes: u64,
-    allowance: u32,
-    watts: &'a [u64],
-    fuels: &'a [u64],
-    energies: &'a [u64],
-    limits: &'a [u64],
-    energy: &'b [u32; 64],
-    limit: &'b [u8; 64],
-    table: &mut [u64],
-) -> Answer
+// The shortest time. Probes write the scratch table, which is as long as the lent one, and found is copied.
+fn shortest_with(plan: Plan, scratch: &mut [u64], table: &mut [u64]) -> Answer
     requires { ⌜
-        Usable (now watts) (now fuels) (now energies) (now limits)
-        × (minutes ≤ 10080)
-        × (allowance ≤ 1000000000)
-        × (now energy ≡ padded 64 (now energies))
-        × (now limit ≡ padded 64 (now limits))
-        × (length (now table) ≡ length (now energies) * length (now watts))
+        Usable plan
+        × (length (now scratch) ≡ plan .deliveries .count * plan .engines .count)
+        × (length (now table) ≡ plan .deliveries .count * plan .engines .count)
         ⌝ }
-    ensures answer { λ r. ⌜ r ≡ answerOf (shortestOf (planOn Shortest minutes allowance (now (watts .entry)) (now (fuels .entry)) (now (energies .entry)) (now (limits .entry)))) ⌝ }
-    ensures table { λ r. ⌜
-        now (table .exit)
-        ≡ written (shortestOf (planOn Shortest minutes allowance (now (watts .entry)) (now (fuels .entry)) (now (energies .entry)) (now (limits .entry))) .result) (now (table .entry))
-        ⌝ }
+    ensures { λ r. ⌜ Answers (shortestOf (planIn plan)) (now (table .entry)) r (now (table .exit)) ⌝ }
 {
-    let mut scratch = [0u64; 768];
-    let cells = table.len();
-    let ended = search_at(
-        minutes,
-        allowance,
-        watts,
-        fuels,
-        energies,
-        limits,
-        energy,
-        limit,
-        &mut scratch[..cells],
-    );
+    let minutes = plan.minutes;
+    let ended = search_at(plan, minutes, &mut *scratch);
     match ended {
         Ended::Found(tries) => {
-            let found = bisect(
-                minutes,
-                tries,
-                allowance,
-                watts,
-                fuels,
-                energies,
-                limits,
-                energy,
-                limit,
-                &mut scratch[..cells],
-            );
-            let outcome = found.outcome;
+            let answer = bisect(plan, tries, &mut *scratch);
+            let outcome = answer.outcome;
             if let Outcome::Found = outcome {
-                copy(&scratch, table);
+                copy(&*scratch, table);
             }
-            found
+            answer
         }
-        Ended::None(t) => Answer {
-            outcome: Outcome::None,
-            minutes,
-            tries: t as u64,
-        },
-        Ended::Stopped(t) => Answer {
-            outcome: Outcome::Stopped,
-            minutes,
-            tries: t as u64,
-        },
+        _ => answer_of(ended, minutes),
     }
 }
 
-// The answer to a plan that is accepted; found writes the table.
-pub(crate) fn plan<'a>(
-    mode: Mode,
-    minutes: u64,
-    allowance: u64,
-    watts: &'a [u64],
-    fuels: &'a [u64],
-    energies: &'a [u64],
-    limits: &'a [u64],
-    table: &mut [u64],
-) -> Answer
-    requires { ⌜
-        Usable (now watts) (now fuels) (now energies) (now limits)
-        × (minutes ≤ 10080)
-        × (allowance ≤ 1000000000)
-        × (length (now table) ≡ length (now energies) * length (now watts))
-        ⌝ }
-    ensures answer { λ r. ⌜ r ≡ answerOf (planned (planOn mode minutes allowance (now (watts .entry)) (now (fuels .entry)) (now (energies .entry)) (now (limits .entry)))) ⌝ }
-    ensures table { λ r. ⌜
-        now (table .exit)
-        ≡ written (planned (planOn mode minutes allowance (now (watts .entry)) (now (fuels .entry)) (now (energies .entry)) (now (limits .entry))) .result) (now (table .entry))
-        ⌝ }
+fn shortest(plan: Plan, table: &mut [u64]) -> Answer
+    requires { ⌜ Usable plan × (length (now table) ≡ plan .deliveries .count * plan .engines .count) ⌝ }
+    ensures { λ r. ⌜ Answers (shortestOf (planIn plan)) (now (table .entry)) r (now (table .exit)) ⌝ }
 {
-    let energy = capacity::narrow_energies(energies);
-    let limit = capacity::narrow_limits(limits);
-    let allowed = allowance as u32;
+    let mut scratch = [0u64; MOST_CELLS];
+    let cells = table.len();
+    shortest_with(plan, &mut scratch[..cells], table)
+}
+
+// The answer to a plan; found writes the table.
+pub(crate) fn plan(plan: Plan, table: &mut [u64]) -> Answer
+    requires { ⌜ Usable plan × (length (now table) ≡ plan .deliveries .count * plan .engines .count) ⌝ }
+    ensures { λ r. ⌜ Answers (planned (planIn plan)) (now (table .entry)) r (now (table .exit)) ⌝ }
+{
+    let mode = plan.mode;
+    let minutes = plan.minutes;
     match mode {
         Mode::Fixed => {
-            let ended = search_at(
-                minutes,
-                allowed,
-                watts,
-                fuels,
-                energies,
-                limits,
-                &energy,
-                &limit,
-                table,
-            );
+            let ended = search_at(plan, minutes, table);
             answer_of(ended, minutes)
         }
-        Mode::Shortest => shortest(
-            minutes,
-            allowed,
-            watts,
-            fuels,
-            energies,
-            limits,
-            &energy,
-            &limit,
-            table,
-        ),
+        Mode::Shortest => shortest(plan, table),
     }
 }

@@ -5,9 +5,8 @@ use Prim.Native.Nat.{ℕ}
 use mathlib.Core.List.{List, [], _∷_, map, zipWith}
 use lib.ListN.{replicate}
 use Rattle.planning.specs.Examples.Evaluation.{evaluated}
-use Rattle.planning.specs.Numbers.{Call, enginesOf, deliveriesOf, planOf, within, engineFault, deliveryFault, refusalOf, answeredBy as answerBy, allocation, unlessRefused, tableOnExit, spareOnExit}
+use Rattle.planning.specs.Numbers.{Call, enginesOf, deliveriesOf, planOf, within, engineFault, deliveryFault, refusalOf, answeredBy as answerBy, allocation, unlessRefused, tableOnExit, spareOnExit, callOn}
 use Rattle.planning.specs.Refusals.{faultNumber, check, _then_, checkEach}
-use Rattle.allocation.specs.Numbers.{callOn}
 use Rattle.export.specs.declared.PlanReply.{PlanReply}
 use Rattle.export.specs.Numbers.{isMode, modeOf, noMode, withoutMode, allocationBy, tableBy, spareBy}
 use Rattle.export.specs.Replies.{wordOf, answeredBy, refusedBy, replyOf}

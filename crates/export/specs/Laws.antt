@@ -12,10 +12,9 @@ use Rattle.planning.specs.declared.Fault.the-variants.{Fields, Value, Count, No
 use Rattle.planning.specs.declared.Refusal.{Refusal}
 use Rattle.planning.specs.Bounds.{mostMinutes, mostTries}
 use Rattle.planning.specs.Modes.{tableAfter, sparesAfter}
-use Rattle.planning.specs.Numbers.{Call, planOf, within, engineFault, deliveryFault, refusalOf, answeredBy, allocation, unlessRefused, tableOnExit, spareOnExit}
+use Rattle.planning.specs.Numbers.{Call, planOf, within, engineFault, deliveryFault, refusalOf, answeredBy, allocation, unlessRefused, tableOnExit, spareOnExit, callOn}
 use Rattle.planning.specs.Plan.{Engine, Delivery}
 use Rattle.planning.specs.Refusals.{faultNumber, check, checkEach, _then_}
-use Rattle.allocation.specs.Numbers.{callOn}
 use Rattle.export.specs.Numbers.{isMode, noMode, withoutMode, allocationBy, tableBy, spareBy, minutesUnder}
 
 -- ---- checks that refuse by 6 alone

@@ -8,7 +8,7 @@ use planning::Mode;
 use planning::Outcome;
 use planning::Refusal;
 ghost use mathlib.Core.Path.{_≡_};
-ghost use Rattle.allocation.specs.Numbers.{callOn};
+ghost use Rattle.planning.specs.Numbers.{callOn};
 ghost use Rattle.filecall.specs.Calls.{callWith};
 ghost use Rattle.planfile.specs.FileCall.{answerToFile, fileTable, fileSpare, fileOutput};
 ghost use Rattle.export.specs.Numbers.{modeOf, minutesUnder, allocationBy, tableBy, spareBy};
@@ -145,12 +145,12 @@ pub extern "C" fn fothwen_plan_file(
     }
 }
 
-// `allocation::spare_lookup`. Which engine it names is the program's choice.
+// `lookup::spare_lookup`. Which engine it names is the program's choice.
 #[no_mangle]
 pub extern "C" fn fothwen_spare_lookup(spare: &[u64], amount: u64) -> LookupReply
     ensures { λ r. ⌜ PermittedReply (now (spare .entry)) amount r ⌝ }
 {
-    let found = allocation::spare_lookup(spare, amount);
+    let found = lookup::spare_lookup(spare, amount);
     match found {
         Lookup::Engine(i) => LookupReply {
             word: 0,

@@ -8,6 +8,10 @@ use Rattle.planning.specs.Plan.{Plan, Engine}
 unfoldable pub capacity : Engine → ℕ → ℕ
 capacity e T = min (e .fuel) (e .watts * T / 60)
 
--- the capacities of a plan's engines for T minutes, in file order
+-- the capacities of engines for T minutes, in file order
+abbrev pub eachCapacity : List Engine → ℕ → List ℕ
+eachCapacity engines T = map (λ (e : Engine). capacity e T) engines
+
+-- of a plan's engines
 unfoldable pub capacities : Plan → ℕ → List ℕ
-capacities plan T = map (λ (e : Engine). capacity e T) (plan .engines)
+capacities plan T = eachCapacity (plan .engines) T

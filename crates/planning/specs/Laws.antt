@@ -1,12 +1,18 @@
 -- What is proved about the definitions beside this file.
+pub mod ByValue
 pub mod Completeness
 pub mod Cuttings
 pub mod Finite
+pub mod Front
 pub mod Lent
 pub mod Modes
 pub mod Numbers
+pub mod OnExit
+pub mod Padded
 pub mod Plans
+pub mod Promised
 pub mod Promises
+pub mod Refusals
 pub mod Saturation
 pub mod Search
 pub mod Soundness

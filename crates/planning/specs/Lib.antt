@@ -1,5 +1,6 @@
 -- Planning: the definitions of document 01, what is proved about them, and evaluated plans.
 pub mod Bounds
+pub mod ByValue
 pub mod Capacity
 pub mod Cutting
 pub mod Examples
@@ -7,6 +8,7 @@ pub mod Laws
 pub mod Modes
 pub mod Numbers
 pub mod Plan
+pub mod Promises
 pub mod Refusals
 pub mod Search
 pub mod SpareLookup

@@ -33,20 +33,20 @@ pub record Planned : Type 0 where
 unfoldable pub plannedAt : Plan → ℕ → Planned
 plannedAt plan T = record { minutes = T; result = searchAt plan T }
 
--- what follows a search by its outcome: each branch waits until the outcome is known, and takes the tries
-unfoldable pub byOutcome : {A : Type 0} → Result → (ifFound ifNone ifStopped : ℕ → A) → A
-byOutcome (found tries table) ifFound ifNone ifStopped = ifFound tries
-byOutcome (none tries) ifFound ifNone ifStopped = ifNone tries
-byOutcome (stopped tries) ifFound ifNone ifStopped = ifStopped tries
+-- what follows a search by its outcome; each branch waits until the outcome is known
+unfoldable pub byOutcome : {A : Type 0} → Result → (ifFound ifNone ifStopped : Unit {0} → A) → A
+byOutcome (found tries table) ifFound ifNone ifStopped = ifFound tt
+byOutcome (none tries) ifFound ifNone ifStopped = ifNone tt
+byOutcome (stopped tries) ifFound ifNone ifStopped = ifStopped tt
 
 -- "T = (low + high) / 2 rounded down"
 abbrev pub middle : (low high : ℕ) → ℕ
 middle low high = (low + high) / 2
 
 -- one of two branches, each of which waits until the test is known
-unfoldable pub whileAbove : {A : Type 0} → Bool → (turn answer : ℕ → A) → A
-whileAbove true turn answer = turn 0
-whileAbove false turn answer = answer 0
+unfoldable pub whileAbove : {A : Type 0} → Bool → (turn answer : Unit {0} → A) → A
+whileAbove true turn answer = turn tt
+whileAbove false turn answer = answer tt
 
 -- "while high − low is above 1, search T = (low + high) / 2 rounded down; found sets high, none sets low, stopped answers
 -- stopped with that T. The answer is the search at high." On a bound for the number of turns: high - low falls with each.

@@ -30,6 +30,21 @@ pub record Call : Type 0 where
   pub table : List ℕ
   pub spare : List ℕ
 
+-- a call with those values
+abbrev pub callOn : Mode → (minutes allowance : ℕ) → (watts fuels energies limits table spare : List ℕ) → Call
+callOn mode minutes allowance watts fuels energies limits table spare =
+    record {
+      mode = mode;
+      minutes = minutes;
+      allowance = allowance;
+      watts = watts;
+      fuels = fuels;
+      energies = energies;
+      limits = limits;
+      table = table;
+      spare = spare;
+    }
+
 -- the engines and the deliveries of paired lists
 unfoldable pub enginesOf : (watts fuels : List ℕ) → List Engine
 enginesOf watts fuels = zipWith (λ (w f : ℕ). record { watts = w; fuel = f }) watts fuels

@@ -7,7 +7,8 @@ use mathlib.Core.List.{List}
 use mathlib.Core.Option.{Option, none, some}
 use lib.ListN.{length}
 use lib.Dec.{leb}
-use Rattle.planning.specs.declared.Fault.the-variants.{Value, Count, NoEngine}
+use Rattle.planning.specs.declared.Fault.{Fault}
+use Rattle.planning.specs.declared.Fault.the-variants.{Size, Grammar, Fields, Kind, Name, Value, Count, NoEngine, Space}
 use Rattle.planning.specs.declared.Lookup.{Lookup}
 use Rattle.planning.specs.declared.Lookup.the-variants.{Engine, Nowhere, Refused}
 use Rattle.planning.specs.declared.Refusal.{Refusal}
@@ -36,3 +37,23 @@ PermittedBy none spare amount answer = Names spare amount answer
 
 unfoldable pub Permitted : (spare : List ℕ) → (amount : ℕ) → Lookup → Type 0
 Permitted spare amount answer = PermittedBy (lookupRefusal spare amount) spare amount answer
+
+-- the faults of a lookup, each at place 0
+unfoldable pub FaultInLookup : Fault → (place : ℕ) → Type 0
+FaultInLookup NoEngine place = place ≡ 0
+FaultInLookup Count place = place ≡ 0
+FaultInLookup Value place = place ≡ 0
+FaultInLookup Size place = ⊥
+FaultInLookup Grammar place = ⊥
+FaultInLookup Fields place = ⊥
+FaultInLookup Kind place = ⊥
+FaultInLookup Name place = ⊥
+FaultInLookup Space place = ⊥
+
+-- what the lookup promises of its answer
+pub record LookedUp (spare : List ℕ) (amount : ℕ) (r : Lookup) : Type 0 where
+  pub permitted : Permitted spare amount r
+  -- an engine that is named has the amount, and where none is named none has it
+  pub named : (i : ℕ) → r ≡ Engine i → (i < length spare) × (amount ≤ at spare i)
+  pub nowhere : r ≡ Nowhere → (i : ℕ) → i < length spare → at spare i < amount
+  pub turnedDown : (refusal : Refusal) → r ≡ Refused refusal → FaultInLookup (refusal .fault) (refusal .place)

@@ -1,6 +1,9 @@
-// The types that the planner's answers and contracts speak of, the bounds, and a fault's number. Their meaning is given in specs/.
+// The types that the planner's answers and contracts speak of, the bounds, a fault's number, and what several crates do with numbers. Their
+// meaning is given in specs/.
 ghost use mathlib.Core.Path.{_≡_};
+ghost use lib.ListN.{length, take};
 ghost use Rattle.planning.specs.Refusals.{faultNumber};
+ghost use Rattle.planning.specs.Tables.{overFront};
 
 // The counts and ranges of document 01 under the names that specs/Bounds gives them.
 pub const MOST_ENGINES: usize = 12;
@@ -124,4 +127,20 @@ pub fn wide(x: u32) -> u64
     ensures { λ r. ⌜ r ≡ x ⌝ }
 {
     x as u64
+}
+
+// Numbers copied to the front of a list, as many as it has room for.
+pub fn copy(numbers: &[u64], to: &mut [u64])
+    ensures { λ r. ⌜ now (to .exit) ≡ overFront (take (length (now (to .entry))) (now (numbers .entry))) (now (to .entry)) ⌝ }
+{
+    let n = if numbers.len() < to.len() {
+        numbers.len()
+    } else {
+        to.len()
+    };
+    let mut i = 0;
+    while i < n {
+        to[i] = numbers[i];
+        i += 1;
+    }
 }

@@ -41,8 +41,8 @@ returns c =
     let told =
     rw (called .before .before .before .minutes-under .ensures, called .before .before .before .before .mode-of .ensures)
     at (called .allocate .ensures) in (
-      (c .answered .ensures) ∙ ap replyOf (sym (c .before .before .r .given .1) ∙ told .0 ∙ allocated _ _),
-      (told .1 .0 ∙ table-left _ _, told .1 .1 .0 ∙ spare-left _ _),
+      (c .answered .ensures) ∙ ap replyOf (sym (c .before .before .r .given .1) ∙ told .result ∙ allocated _ _),
+      (told .table ∙ table-left _ _, told .spare ∙ spare-left _ _),
     )
 
 same-length-3 : tie.Need-same-length-3
@@ -58,8 +58,8 @@ returns-2 c =
     let told =
     rw (called .before .before .before .minutes-under .ensures, called .before .before .before .before .mode-of .ensures)
     at (called .allocate .ensures) in (
-      (c .refused .ensures) ∙ ap replyOf (sym (c .before .before .r2 .given .1) ∙ told .0 ∙ allocated _ _),
-      (told .1 .0 ∙ table-left _ _, told .1 .1 .0 ∙ spare-left _ _),
+      (c .refused .ensures) ∙ ap replyOf (sym (c .before .before .r2 .given .1) ∙ told .result ∙ allocated _ _),
+      (told .table ∙ table-left _ _, told .spare ∙ spare-left _ _),
     )
 
 pub fothwen-allocate-spec : {M : Type 1} → statement M

@@ -46,17 +46,17 @@ unfolding PermittedReply lookupReplyOf
 refused spare amount number answer refusal e h permitted = (Refused refusal, rw (h) refl, rw (e) at permitted)
 
 returns : tie.Need-returns
-returns c = named _ _ _ _ (c .before .found .given .1) (c .before .before .before .spare-lookup .ensures)
+returns c = named _ _ _ _ (c .before .found .given .1) (c .before .before .before .spare-lookup .ensures .permitted)
 
 returns-2 : tie.Need-returns-2
-returns-2 c = none _ _ _ (c .enum-told .given .1) (c .before .before .spare-lookup .ensures)
+returns-2 c = none _ _ _ (c .enum-told .given .1) (c .before .before .spare-lookup .ensures .permitted)
 
 returns-3 : tie.Need-returns-3
 returns-3 c =
     refused _ _ _ _ _
     (c .before .before .found2 .given .1)
     (c .number-of .ensures)
-    (c .before .before .before .before .spare-lookup .ensures)
+    (c .before .before .before .before .spare-lookup .ensures .permitted)
 
 pub fothwen-spare-lookup-spec : {M : Type 1} → statement M
 fothwen-spare-lookup-spec =

@@ -24,10 +24,9 @@ use Rattle.planning.specs.Laws.Soundness.{plan-length}
 use Rattle.planning.specs.Laws.Tables.{length-listed, listed-same, map-listed}
 use Rattle.planning.specs.Modes.{planned, answerOf, outcomeOf, spares, tableBy, sparesBy, tableAfter, sparesAfter}
 use Rattle.planning.specs.Tables.{overFront, listed, at, listed}
-use Rattle.planning.specs.Numbers.{Call, Accepted, planOf, enginesOf, deliveriesOf, answeredBy, allocation, unlessRefused, tableOnExit, spareOnExit}
+use Rattle.planning.specs.Numbers.{Call, Accepted, planOf, enginesOf, deliveriesOf, answeredBy, allocation, unlessRefused, tableOnExit, spareOnExit, callOn}
 use Rattle.planning.specs.Plan.{Plan, All, InRange}
 use Rattle.planning.specs.Search.{Result, found, none, stopped}
-use Rattle.allocation.specs.Numbers.{callOn}
 use Rattle.planfile.specs.declared.FileAnswer.{FileAnswer}
 use Rattle.planfile.specs.declared.FileAnswer.the-variants.{Printed, Refused}
 use Rattle.planfile.specs.FileCall.{answerBy, onExit, printed}

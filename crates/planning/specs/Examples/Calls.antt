@@ -12,23 +12,13 @@ use Rattle.planning.specs.declared.Mode.{Mode}
 use Rattle.planning.specs.declared.Mode.the-variants.{Fixed, Shortest}
 use Rattle.planning.specs.declared.Outcome.the-variants.{Found, None, Stopped}
 use Rattle.planning.specs.Examples.Evaluation.{evaluated}
-use Rattle.planning.specs.Numbers.{Call, enginesOf, deliveriesOf, planOf, within, engineFault, deliveryFault, refusalOf, answeredBy, allocation, unlessRefused, tableOnExit, spareOnExit}
+use Rattle.planning.specs.Numbers.{Call, callOn, enginesOf, deliveriesOf, planOf, within, engineFault, deliveryFault, refusalOf, answeredBy, allocation, unlessRefused, tableOnExit, spareOnExit}
 use Rattle.planning.specs.Refusals.{check, _then_, checkEach}
 
 -- a call that is lent a table and a spare list of those lengths, each filled with a pattern
 call : Mode → (minutes allowance : ℕ) → (watts fuels energies limits : List ℕ) → (table spare : ℕ) → Call
 call mode minutes allowance watts fuels energies limits table spare =
-    record {
-      mode = mode;
-      minutes = minutes;
-      allowance = allowance;
-      watts = watts;
-      fuels = fuels;
-      energies = energies;
-      limits = limits;
-      table = replicate table 7;
-      spare = replicate spare 8;
-    }
+    callOn mode minutes allowance watts fuels energies limits (replicate table 7) (replicate spare 8)
 
 -- a call with what it returns and what is then in the lent lists
 pub record CallExample : Type 0 where

@@ -56,14 +56,14 @@ pub shortest-searched : (plan : Plan) → SearchedAt plan (shortest plan)
 unfolding shortest plannedAt
 shortest-searched plan =
     by-outcome (SearchedAt plan) (searchAt plan (plan .minutes)) _ _ _
-    (λ e t. bisect-induction plan (SearchedAt plan) (λ low high. (low ≤ high) × (high ≤ plan .minutes) × (1 ≤ plan .minutes → low < high))
+    (λ e. bisect-induction plan (SearchedAt plan) (λ low high. (low ≤ high) × (high ≤ plan .minutes) × (1 ≤ plan .minutes → low < high))
     (λ low high b k. record { result = refl; least = λ l. omega (arith, b .2 l); most = b .1 })
     (λ low high b k o. (omega arith, omega (arith, b .1), λ l. omega (arith, b .2 l)))
     (λ low high b k o. (omega arith, b .1, λ l. omega (arith, b .2 l)))
     (λ low high b k o. record { result = refl; least = λ l. omega arith; most = omega (arith, b .1) })
     (plan .minutes) 0 (plan .minutes) (omega arith) (omega arith, omega arith, λ l. l))
-    (λ e t. fixed-searched plan)
-    (λ e t. fixed-searched plan)
+    (λ e. fixed-searched plan)
+    (λ e. fixed-searched plan)
 
 planned-in : (plan : Plan) {mode : Mode} → plan .mode ≡ mode → planned plan ≡ plannedIn mode plan
 unfolding planned
@@ -76,10 +76,6 @@ planned-searched plan = go (plan .mode)
     go : (mode : Mode) → SearchedAt plan (plannedIn mode plan)
     go Fixed = fixed-searched plan
     go Shortest = shortest-searched plan
-
--- Where the answer is stopped, the search at the answered minutes is.
-pub stopped-at : (plan : Plan) → outcomeOf (planned plan .result) ≡ Stopped → outcomeOf (searchAt plan (planned plan .minutes)) ≡ Stopped
-stopped-at plan e = ap outcomeOf (sym (planned-searched plan .result)) ∙ e
 
 -- A cutting serves in T minutes, and none in fewer, down to one.
 pub record LeastTime (plan : Plan) (T : ℕ) : Type 0 where
@@ -133,7 +129,7 @@ module _ (plan : Plan) (ranges : All DeliveryInRange (plan .deliveries)) where
   unfolding shortest
   shortest-means =
       by-outcome ShortestMeans (searchAt plan (plan .minutes)) _ _ _
-      (λ e t. bisect-induction plan ShortestMeans Bracket end
+      (λ e. bisect-induction plan ShortestMeans Bracket end
       (λ low high b k o. record { short = b .short; enough = o })
       (λ low high b k o. record {
         short = λ T l m. not-served-shorter plan T ((low + high) / 2) m (known-means ((low + high) / 2) None o);
@@ -142,8 +138,8 @@ module _ (plan : Plan) (ranges : All DeliveryInRange (plan .deliveries)) where
       (λ low high b k o. answered ((low + high) / 2) Stopped o tt)
       (plan .minutes) 0 (plan .minutes) (omega arith)
       (record { short = λ T l m. absurd (omega arith); enough = e }))
-      (λ e t. answered (plan .minutes) None e (known-means (plan .minutes) None e))
-      (λ e t. answered (plan .minutes) Stopped e tt)
+      (λ e. answered (plan .minutes) None e (known-means (plan .minutes) None e))
+      (λ e. answered (plan .minutes) Stopped e tt)
     where
       end : (low high : ℕ) → Bracket low high → high - low ≤ 1 → ShortestMeans (plannedAt plan high)
       end low high b k =

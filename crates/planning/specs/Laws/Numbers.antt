@@ -1,16 +1,16 @@
 -- What the checks of a call on numbers mean, and that the call is refused exactly where it is not accepted.
 -- Assumes nothing.
 use mathlib.Core.Path.{_≡_, refl, sym, ap}
-use mathlib.Core.Logic.{_↔_}
+use mathlib.Core.Logic.{_↔_, _⊎_, inl, inr}
 use Prim.Native.Nat.{ℕ, suc, _+_, _≤_, _<_}
-use mathlib.Core.Bool.{Bool, true, false, false≢true, and-eq-true-iff}
+use mathlib.Core.Bool.{Bool, true, false, _&&_, false≢true, and-eq-true-iff}
 use mathlib.Core.List.{List, [], _∷_, zipWith}
 use mathlib.Core.Option.{Option, none, some, Option·some-ne-none}
 use lib.ListN.{length}
 use lib.Dec.{ltb, leb, eqb}
 use native.Mathlib.Nat.{suc-inj}
 use native.Mathlib.Omega.{arith}
-use borrow.Author.Tests.{ltb-true, lt-ltb, leb-true, le-leb, eqb-true, eq-eqb}
+use borrow.Author.Tests.{ltb-true, lt-ltb, leb-true, le-leb, lt-leb, eqb-true, eq-eqb}
 use Rattle.planning.specs.declared.Fault.{Fault}
 use Rattle.planning.specs.declared.Refusal.{Refusal}
 use Rattle.planning.specs.Numbers.{Call, Accepted, enginesOf, deliveriesOf, planOf, within, engineFault, deliveryFault, refusalOf}
@@ -36,6 +36,19 @@ within-iff low high n = (
   λ e. let both = simp (and-eq-true-iff, leb-iff) at e in record { least = both .0; most = both .1 },
   λ w. simp (and-eq-true-iff, leb-iff) (w .least, w .most),
 )
+
+both-false : (a : Bool) → (a && false) ≡ false
+both-false true = refl
+both-false false = refl
+
+-- inside and outside of a range
+pub inside : (low high n : ℕ) → low ≤ n → n ≤ high → within low high n ≡ true
+inside low high n l h = within-iff low high n .1 (record { least = l; most = h })
+
+pub outside : (low high n : ℕ) → (n < low) ⊎ (high < n) → within low high n ≡ false
+unfolding within
+outside low high n (inl l) = rw (lt-leb low n l)
+outside low high n (inr l) = rw (lt-leb n high l) (both-false (leb low n))
 
 -- ---- the checks
 
@@ -87,11 +100,11 @@ length-zip f [] ys e = refl
 length-zip f (x ∷ xs) [] e = sym e
 length-zip f (x ∷ xs) (y ∷ ys) e = ap suc (length-zip f xs ys (suc-inj e))
 
-engine-count : (watts fuels : List ℕ) → length watts ≡ length fuels → length (enginesOf watts fuels) ≡ length watts
+pub engine-count : (watts fuels : List ℕ) → length watts ≡ length fuels → length (enginesOf watts fuels) ≡ length watts
 unfolding enginesOf
 engine-count watts fuels e = length-zip _ watts fuels e
 
-delivery-count : (energies limits : List ℕ) → length energies ≡ length limits → length (deliveriesOf energies limits) ≡ length energies
+pub delivery-count : (energies limits : List ℕ) → length energies ≡ length limits → length (deliveriesOf energies limits) ≡ length energies
 unfolding deliveriesOf
 delivery-count energies limits e = length-zip _ energies limits e
 

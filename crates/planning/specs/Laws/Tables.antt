@@ -1,10 +1,12 @@
--- Lists given place by place: their lengths and entries.
+-- Lists given place by place: their lengths and entries, and what holds of each entry.
 -- Assumes nothing.
 use mathlib.Core.Path.{_≡_, refl, ap, ap₂}
-use mathlib.Core.List.{List, [], _∷_, _++_, map}
-use Prim.Native.Nat.{ℕ, zero, suc, _<_}
+use mathlib.Core.List.{List, [], _∷_, _++_, map, zipWith}
+use Prim.Native.Nat.{ℕ, zero, suc, _≤_, _<_}
+use native.Mathlib.Nat.{suc-inj}
 use native.Mathlib.Omega.{arith}
-use lib.ListN.{length, getD}
+use lib.ListN.{length, take, getD, replicate}
+use Rattle.planning.specs.Plan.{All}
 use Rattle.planning.specs.Tables.{at, listed}
 
 -- the list f 0, .., f (n - 1) has n items, and f k at place k
@@ -38,3 +40,30 @@ pub map-listed : {A B : Type 0} (h : A → B) (n : ℕ) (f : ℕ → A) → map 
 unfolding listed
 map-listed h zero f = refl
 map-listed h (suc n) f = ap (λ (items : List _). h (f 0) ∷ items) (map-listed h n (λ k. f (suc k)))
+
+-- what holds of every item holds of each
+pub listed-each : {A : Type 0} (P : A → Type 0) (n : ℕ) (f : ℕ → A) → All P (listed n f) → (k : ℕ) → k < n → P (f k)
+unfolding listed
+listed-each P zero f h k l = absurd (omega arith)
+listed-each P (suc n) f h zero l = h .0
+listed-each P (suc n) f h (suc k) l = listed-each P n (λ j. f (suc j)) (h .1) k (omega arith)
+
+-- the front of a list, and two lists paired, place by place
+pub listed-take : (n : ℕ) (xs : List ℕ) → n ≤ length xs → listed n (λ k. at xs k) ≡ take n xs
+unfolding listed
+listed-take zero xs l = refl
+listed-take (suc n) [] l = absurd (omega arith)
+listed-take (suc n) (x ∷ xs) l = ap (λ (ys : List ℕ). x ∷ ys) (listed-take n xs (omega arith))
+
+pub listed-pairs : {A : Type 0} (pair : ℕ → ℕ → A) (xs ys : List ℕ) → length xs ≡ length ys
+    → listed (length xs) (λ k. pair (at xs k) (at ys k)) ≡ zipWith pair xs ys
+unfolding listed zipWith
+listed-pairs pair [] ys e = refl
+listed-pairs pair (x ∷ xs) [] e = absurd (omega arith)
+listed-pairs pair (x ∷ xs) (y ∷ ys) e = ap (λ (items : List _). pair x y ∷ items) (listed-pairs pair xs ys (suc-inj e))
+
+-- a list of zeros
+pub at-zeros : (n k : ℕ) → at (replicate n 0) k ≡ 0
+at-zeros zero k = refl
+at-zeros (suc n) zero = refl
+at-zeros (suc n) (suc k) = at-zeros n k

@@ -1,52 +1,58 @@
--- `allocation::capacity::capacities` meets its contract. The loop's invariant: the array has the plan's capacities in front and zeros after.
+-- `allocation::capacity::capacities` meets its contract. The loop's invariant: the first capacities are stored in front of zeros.
 -- Assumes nothing.
-use mathlib.Core.Path.{_≡_, sym, _∙_}
-use mathlib.Core.List.{[]}
-use Prim.Native.Nat.{_-_, _≤_, _<_}
-use lib.ListN.{length, replicate}
+use mathlib.Core.Path.{_≡_, sym, ap₂, _∙_}
+use Prim.Native.Nat.{ℕ, _-_, _<_}
+use lib.ListN.{replicate}
 use native.Mathlib.Omega.{arith}
-use Rattle.planning.specs.declared.Mode.the-variants.{Fixed}
-use Rattle.planning.specs.Capacity.{capacities as capacitiesOf}
-use Rattle.allocation.specs.Laws.Front.{front, front-none, front-more, front-zeros}
-use Rattle.allocation.specs.Laws.Lists.{capacity-count, capacity-at, engine-in-range}
-use Rattle.allocation.specs.Numbers.{planOn}
+use Rattle.planning.specs.Bounds.{mostEngines}
+use Rattle.planning.specs.ByValue.{engineIn, enginesIn}
+use Rattle.planning.specs.Capacity.{capacity, eachCapacity}
+use Rattle.planning.specs.Laws.ByValue.{engine-in-range, count-capacities-in, capacity-in}
+use Rattle.planning.specs.Laws.Front.{Stored, stored-none, stored-more, stored-new, over-zeros}
 use Rattle.allocation.proofs.capacity.capacities.Statement.{statement}
 use Rattle.allocation.proofs.capacity.capacities.Tie as tie
 
 abbrev Inv-loop : tie.InvT-loop
-Inv-loop watts fuels minutes out₀ i₀ out i =
-    (i ≤ length watts) × (out ≡ front i (capacitiesOf (planOn Fixed 0 0 watts fuels [] []) minutes) (replicate 12 0))
+Inv-loop minutes engines out₀ count i₀ out i = Stored (eachCapacity (enginesIn engines) minutes) (replicate mostEngines 0) i out
 
 abbrev μ-loop : tie.MeasureT-loop
-μ-loop watts fuels minutes out₀ i₀ out i = length watts - i
+μ-loop minutes engines out₀ count i₀ out i = count - i
 
 loop-holds : tie.Need-loop-holds Inv-loop μ-loop
-loop-holds c = (omega arith, front-none _ _)
+loop-holds c = stored-none _ _
 
-mul-capacity : tie.Need-mul-capacity Inv-loop μ-loop
-mul-capacity c = omega arith
+mul-wide : tie.Need-mul-wide Inv-loop μ-loop
+mul-wide c = omega arith
 
-shared-slice-read-capacity : tie.Need-shared-slice-read-capacity Inv-loop μ-loop
-shared-slice-read-capacity c = omega arith
+element-copy-out-wide : tie.Need-element-copy-out-wide Inv-loop μ-loop
+element-copy-out-wide c = omega arith
 
-mul-capacity-2 : tie.Need-mul-capacity-2 Inv-loop μ-loop
-mul-capacity-2 c = omega arith
+wide-requires : tie.Need-wide-requires Inv-loop μ-loop
+wide-requires c κs = tt
 
-shared-slice-read-capacity-2 : tie.Need-shared-slice-read-capacity-2 Inv-loop μ-loop
-shared-slice-read-capacity-2 c = omega arith
+mul-wide-2 : tie.Need-mul-wide-2 Inv-loop μ-loop
+mul-wide-2 c = omega arith
+
+element-copy-out-wide-2 : tie.Need-element-copy-out-wide-2 Inv-loop μ-loop
+element-copy-out-wide-2 c = omega arith
+
+wide-requires-2 : tie.Need-wide-requires-2 Inv-loop μ-loop
+wide-requires-2 c κs = tt
 
 capacity-requires : tie.Need-capacity-requires Inv-loop μ-loop
+unfolding engineIn
 capacity-requires c κs =
-    let known = c .before .before .before .before .before .before .pre in
-    let i = c .before .before .before .loop .i in
-    let engine = engine-in-range _ _ (known .0 .engineLists) (known .0 .engines) i (c .before .before .loop-test .taken) in
-    (engine .watts .most, engine .fuel .most, known .1)
+    let turn = c .before .before .before .before in
+    let start = turn .before .before in
+    let engine = engine-in-range (start .pre .0) (turn .before .loop .i) (turn .loop-test .taken) in
+    (rw (c .before .before .wide .ensures) (engine .watts .most), rw (c .wide2 .ensures) (engine .fuel .most), start .pre .1)
 
 mul-out : tie.Need-mul-out Inv-loop μ-loop
 mul-out c = omega arith
 
 array-write-out : tie.Need-array-write-out Inv-loop μ-loop
-array-write-out c = omega arith
+array-write-out c =
+    let turn = c .before .before .before .before .before in omega (arith, turn .loop-test .taken, turn .before .before .pre .0 .count .most)
 
 add-i : tie.Need-add-i Inv-loop μ-loop
 add-i c = omega arith
@@ -55,26 +61,25 @@ loop-less : tie.Need-loop-less Inv-loop μ-loop
 loop-less c = omega arith
 
 loop-again : tie.Need-loop-again Inv-loop μ-loop
+unfolding engineIn
 loop-again c =
-    let start = c .before .before .before .before .before .before .before in
-    let here = c .before .before .before .before .loop in
-    let usable = start .pre .0 in
-    let within : here .i < length (start .args .watts .now) = c .before .before .before .loop-test .taken in (
-      omega arith,
-      front-more (here .i) (c .capacity .result) (here .out) _ _ (here .inv .1)
-          (c .capacity .ensures ∙ sym (capacity-at Fixed 0 0 _ _ [] [] (usable .engineLists) (start .args .minutes) (here .i) within))
-          (rw (capacity-count Fixed 0 0 _ _ [] [] (usable .engineLists) (start .args .minutes)) within)
-          (omega (arith, usable .engineCount)),
-    )
+    let turn = c .before .before .before .before .before in
+    let start = turn .before .before in
+    let e = start .args .t1 in
+    let here = turn .before .loop in
+    let l = turn .loop-test .taken in
+    stored-more (here .inv) (c .capacity .result)
+    (c .capacity .ensures
+    ∙ ap₂ (λ (w f : ℕ). capacity (record { watts = w; fuel = f }) (start .args .minutes)) (c .before .before .before .wide .ensures) (c .before .wide2 .ensures)
+    ∙ sym (capacity-in e (start .args .minutes) (here .i) l))
+    (rw (count-capacities-in e (start .args .minutes)) l)
+    (omega (arith, start .pre .0 .count .most))
 
 returns : tie.Need-returns Inv-loop μ-loop
 returns c =
-    let start = c .before .before .before .before in
-    let a = start .args in
-    let here = c .before .loop in
-    let all : here .i ≡ length (capacitiesOf (planOn Fixed 0 0 (a .watts .now) (a .fuels .now) [] []) (a .minutes)) =
-    omega (arith, capacity-count Fixed 0 0 (a .watts .now) (a .fuels .now) [] [] (start .pre .0 .engineLists) (a .minutes)) in
-    here .inv .1 ∙ rw all (front-zeros 12 _)
+    let start = c .before .before in
+    stored-new (c .before .loop .inv) (omega (arith, count-capacities-in (start .args .t1) (start .args .minutes)))
+    ∙ over-zeros mostEngines _
 
 pub capacities-spec : {M : Type 1} → statement M
 capacities-spec =
@@ -83,10 +88,12 @@ capacities-spec =
     Inv-loop
     μ-loop
     loop-holds
-    mul-capacity
-    shared-slice-read-capacity
-    mul-capacity-2
-    shared-slice-read-capacity-2
+    mul-wide
+    element-copy-out-wide
+    wide-requires
+    mul-wide-2
+    element-copy-out-wide-2
+    wide-requires-2
     capacity-requires
     mul-out
     array-write-out

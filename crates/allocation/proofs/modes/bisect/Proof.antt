@@ -1,50 +1,56 @@
 -- `modes::bisect` meets its contract. The loop's invariant: the bisection between low and high is the one asked for, and the search at
--- high found the table in the scratch. The measure is high - low. Assumes nothing.
+-- high found the table in the scratch. The measure is high - low.
+-- Assumes nothing.
 use mathlib.Core.Path.{_≡_, refl, _∙_}
-use Prim.Native.Nat.{ℕ, _-_, _≤_, _<_}
+use mathlib.Core.Logic.{inl, inr}
+use Prim.Native.Nat.{_-_, _≤_, _<_}
 use lib.ListN.{length}
-use borrow.Author.Needs.{needs}
 use native.Mathlib.Omega.{arith}
-use Rattle.planning.specs.declared.Mode.{Mode}
+use Rattle.planning.specs.ByValue.{planIn}
 use Rattle.allocation.specs.Laws.Bisection.{Bracket, bracket-last, bracket-found, bracket-none, bracket-stopped}
-use Rattle.allocation.specs.Numbers.{planOn}
 use Rattle.allocation.proofs.modes.bisect.Statement.{statement}
 use Rattle.allocation.proofs.modes.bisect.Tie as tie
 
 abbrev Inv-loop : tie.InvT-loop
-Inv-loop high tries allowance watts fuels energies limits energy limit scratch₀ low₀ high₀ tries₀ scratch low high' tries' =
-    (low ≤ high')
-    × (high' ≤ high)
-    × (tries' < 4294967296)
+Inv-loop plan tries scratch₀ low₀ high₀ tries₀ scratch low high tries' =
+    (low ≤ high)
+    × (high ≤ plan .minutes)
     × (length scratch ≡ length scratch₀)
-    × ((mode : Mode) (given : ℕ) → Bracket (planOn mode given allowance watts fuels energies limits) high low high' tries' scratch)
+    × Bracket (planIn plan) (plan .minutes) low high tries' scratch
 
 abbrev μ-loop : tie.MeasureT-loop
-μ-loop high tries allowance watts fuels energies limits energy limit scratch₀ low₀ high₀ tries₀ scratch low high' tries' =
-    high' - low
+μ-loop plan tries scratch₀ low₀ high₀ tries₀ scratch low high tries' = high - low
+
+-- ---- a turn
+
+-- where the turn began, from behind its search
+abbrev turn : tie.After-search-at Inv-loop μ-loop → tie.In-loop Inv-loop μ-loop
+turn c = c .before .before
+
+-- it is taken only where high - low is above 1
+more : (c : tie.After-search-at Inv-loop μ-loop) → 1 < turn c .before .loop .high - turn c .before .loop .low
+more c = omega (arith, turn c .loop-test .taken)
+
+bounded : (c : tie.After-search-at Inv-loop μ-loop)
+    → turn c .before .loop .high - turn c .before .loop .low ≤ turn c .before .before .before .args .plan .minutes
+bounded c = omega (arith, turn c .before .loop .inv .1)
+
+-- ---- the needs
 
 loop-holds : tie.Need-loop-holds Inv-loop μ-loop
-loop-holds c =
-    let start = c .before .before .before .before .before in
-    (omega arith, omega arith, omega (arith, start .fits .tries), refl, λ mode given. record { finds = start .pre .6 mode given; same = refl })
+loop-holds c = (omega arith, omega arith, refl, record { finds = c .before .pre .2; same = refl })
 
 sub-loop : tie.Need-sub-loop Inv-loop μ-loop
-sub-loop c = omega arith
+sub-loop c = c .loop .inv .0
 
 add-t : tie.Need-add-t Inv-loop μ-loop
-add-t c = omega arith
+add-t c = omega (arith, c .before .loop .inv .1, c .before .before .before .pre .0 .minutes .most)
 
 search-at-requires : tie.Need-search-at-requires Inv-loop μ-loop
 search-at-requires c κs =
-    let start = c .before .before .before .before .before .before .before .before in
-    let inv = c .before .before .loop .inv in (
-      start .pre .0,
-      omega (arith, start .pre .1, inv .0, inv .1),
-      start .pre .2,
-      start .pre .3,
-      start .pre .4,
-      inv .3 ∙ start .pre .5,
-    )
+    let pre = c .before .before .before .before .pre in
+    let inv = c .before .before .loop .inv in
+    (pre .0, omega (arith, inv .0, inv .1, pre .0 .minutes .most), inv .2 ∙ pre .1)
 
 enum-known-ended : tie.Need-enum-known-ended Inv-loop μ-loop
 enum-known-ended c = c .match .keys1
@@ -54,16 +60,12 @@ loop-less c = omega arith
 
 loop-again : tie.Need-loop-again Inv-loop μ-loop
 loop-again c =
-    let call = c .before .before .before .before .before in
-    let turn = call .before .before in
-    let inv = turn .before .loop .inv in (
-      omega (arith, inv .0, turn .loop-test .taken),
-      omega (arith, inv .0, inv .1, turn .loop-test .taken),
-      omega (arith, c .known-told .given),
-      search needs,
-      λ mode given.
-          bracket-found (inv .4 mode given) (turn .loop-test .taken) (omega (arith, inv .1)) (call .search-at .ensures .0 mode given)
-          (c .before .ended .given .1) (call .search-at .ensures .1 mode given),
+    let called = c .before .before .before .before .before in
+    let inv = turn called .before .loop .inv in (
+      omega (arith, inv .0, more called),
+      omega (arith, inv .0, inv .1, more called),
+      c .before .before .before .before .scratch .given ∙ inv .2,
+      bracket-found (inv .3) (more called) (bounded called) (called .search-at .ensures) (c .before .ended .given .1),
     )
 
 enum-told : tie.Need-enum-told Inv-loop μ-loop
@@ -74,51 +76,36 @@ loop-less-2 c = omega arith
 
 loop-again-2 : tie.Need-loop-again-2 Inv-loop μ-loop
 loop-again-2 c =
-    let call = c .before .before .before .before in
-    let turn = call .before .before in
-    let inv = turn .before .loop .inv in (
-      omega (arith, inv .0, turn .loop-test .taken),
+    let called = c .before .before .before .before in
+    let inv = turn called .before .loop .inv in (
+      omega (arith, inv .0, more called),
       inv .1,
-      inv .2,
-      search needs,
-      λ mode given.
-          bracket-none (inv .4 mode given) (turn .loop-test .taken) (omega (arith, inv .1)) (call .search-at .ensures .0 mode given)
-          (c .enum-told .given .1) (call .search-at .ensures .1 mode given),
+      c .before .before .before .scratch .given ∙ inv .2,
+      bracket-none (inv .3) (more called) (bounded called) (called .search-at .ensures) (c .enum-told .given .1),
     )
 
-enum-known-ended-2 : tie.Need-enum-known-ended-2 Inv-loop μ-loop
-enum-known-ended-2 c = c .match .keys3
-
-cast-t23 : tie.Need-cast-t23 Inv-loop μ-loop
-cast-t23 c = omega arith
+answer-of-requires : tie.Need-answer-of-requires Inv-loop μ-loop
+answer-of-requires c κs = tt
 
 same-length : tie.Need-same-length Inv-loop μ-loop
-same-length c = omega arith
+same-length c = c .before .before .before .scratch .given ∙ turn (c .before .before .before .before) .before .loop .inv .2
 
 returns : tie.Need-returns Inv-loop μ-loop
 returns c =
-    let call = c .before .before .before .before .before in
-    let turn = call .before .before in
-    let inv = turn .before .loop .inv in (
-      λ mode given.
-          bracket-stopped (inv .4 mode given) (turn .loop-test .taken) (omega (arith, inv .1)) (call .search-at .ensures .0 mode given)
-          (c .before .ended2 .given .1),
-      λ mode given e. let z : _≡_ {A = ℕ} 0 1 = cc in absurd (omega arith),
-    )
+    let called = c .before .before .before .before in
+    bracket-stopped (turn called .before .loop .inv .3) (more called) (bounded called) (called .search-at .ensures)
+    (λ n e. elim (c .before .match .keys3) [ inl k ↦ omega (arith, rw e at k) | inr k ↦ omega (arith, rw e at k) ])
+    (λ n e. elim (c .before .match .keys3) [ inl k ↦ omega (arith, rw e at k) | inr k ↦ omega (arith, rw e at k) ])
+    (c .answer-of .ensures)
 
-cast-t25 : tie.Need-cast-t25 Inv-loop μ-loop
-cast-t25 c = omega arith
+answer-of-requires-2 : tie.Need-answer-of-requires-2 Inv-loop μ-loop
+answer-of-requires-2 c κs = tt
 
 same-length-2 : tie.Need-same-length-2 Inv-loop μ-loop
-same-length-2 c = omega arith
+same-length-2 c = c .before .before .loop .inv .2
 
 returns-2 : tie.Need-returns-2 Inv-loop μ-loop
-returns-2 c =
-    let inv = c .before .loop .inv in
-    let lent = c .before .before .before .before .before .before .before .args .scratch .now in (
-      λ mode given. bracket-last (inv .4 mode given) (c .loop-test .left) lent .0,
-      λ mode given e. bracket-last (inv .4 mode given) (c .loop-test .left) lent .1,
-    )
+returns-2 c = bracket-last (c .before .before .loop .inv .3) (c .before .loop-test .left) (c .answer-of2 .ensures)
 
 pub bisect-spec : {M : Type 1} → statement M
 bisect-spec =
@@ -136,10 +123,9 @@ bisect-spec =
     enum-told
     loop-less-2
     loop-again-2
-    enum-known-ended-2
-    cast-t23
+    answer-of-requires
     same-length
     returns
-    cast-t25
+    answer-of-requires-2
     same-length-2
     returns-2)

@@ -1,89 +1,61 @@
--- `modes::search_at` meets its contract: step A by the two sums, the other steps by the search from the first state. What these mean for
--- a plan on numbers is in specs/Laws/SearchAt. Assumes nothing.
-use mathlib.Core.Path.{sym, ap, _∙_}
-use native.Mathlib.Omega.{arith}
-use Rattle.planning.specs.Search.{Result}
-use Rattle.allocation.specs.Laws.Paired.{delivery-ranges}
-use Rattle.allocation.specs.Laws.SearchAt.{engines-usable, amounts-fit, too-much, begun-kept, begun-sized, searched-from}
-use Rattle.allocation.specs.Steps.{endedOf, written}
+-- `modes::search_at` meets its contract: what is lent to the search is in its range, and makes up the plan's search (specs/Laws/Searches).
+-- Assumes nothing.
+use mathlib.Core.Path.{_≡_, sym}
+use Rattle.allocation.specs.Laws.Searches.{few-capacities, few-energies, few-limits, lent-capacities, lent-energies, lent-limits, search-ends}
 use Rattle.allocation.proofs.modes.search_at.Statement.{statement}
 use Rattle.allocation.proofs.modes.search_at.Tie as tie
 
+-- where the call begins, from behind the capacities
+abbrev start : tie.After-capacities → tie.Start
+start c = c .before .before .before .before
+
 capacities-requires : tie.Need-capacities-requires
-capacities-requires c κs =
-    let start = c .before .before .before .before .before in (engines-usable (start .pre .0), start .pre .1)
+capacities-requires c κs = let pre = c .before .before .before .pre in (pre .0 .engines, pre .1)
 
-total-capacity-requires : tie.Need-total-capacity-requires
-total-capacity-requires c κs =
-    let start = c .before .before .before .before .before .before .before in
-    amounts-fit (start .pre .0) (start .args .minutes) (c .before .capacities .ensures)
+array-share-prefix-capacities : tie.Need-array-share-prefix-capacities
+array-share-prefix-capacities c =
+    let made = c .before .before in few-capacities (start made .pre .0 .engines) _ (made .capacities .ensures)
 
-total-energy-requires : tie.Need-total-energy-requires
-total-energy-requires c κs =
-    let u = c .before .before .before .before .before .before .before .before .pre .0 in
-    (u .deliveryCount, λ p l. delivery-ranges _ _ (u .deliveryLists) (u .deliveries) p l .0 .most)
+slice-aggregate-search : tie.Need-slice-aggregate-search
+slice-aggregate-search c =
+    let made = c .before .before .before in sym (lent-capacities (start made .pre .0 .engines) _ (made .capacities .ensures))
 
-returns : tie.Need-returns
-unfolding endedOf written
-returns c =
-    let start = c .before .before .before .before .before .before .before .before .before .before in
-    let none-at = too-much (start .pre .0) (start .args .minutes) (c .before .before .before .before .capacities .ensures)
-    (rw (c .before .before .total-capacity .ensures, c .before .total-energy .ensures) at (c .if1 .taken)) in (
-      λ mode given. sym (ap endedOf (none-at mode given (start .args .allowance))),
-      λ mode given. sym (ap (λ (r : Result). written r (start .args .table .now)) (none-at mode given (start .args .allowance))),
-    )
+array-share-prefix-energy : tie.Need-array-share-prefix-energy
+array-share-prefix-energy c = let made = c .before .before .before in few-energies (start made .pre .0 .deliveries)
 
-first-deliveries-requires : tie.Need-first-deliveries-requires
-first-deliveries-requires c κs = omega arith
+slice-aggregate-search-2 : tie.Need-slice-aggregate-search-2
+slice-aggregate-search-2 c = let made = c .before .before .before .before in sym (lent-energies (start made .pre .0 .deliveries))
 
-open-engines-requires : tie.Need-open-engines-requires
-open-engines-requires c κs = omega arith
+array-share-prefix-limit : tie.Need-array-share-prefix-limit
+array-share-prefix-limit c = let made = c .before .before .before .before in few-limits (start made .pre .0 .deliveries)
 
-choose-requires : tie.Need-choose-requires
-choose-requires c κs =
-    let first = c .before .before .before in
-    let sized = first .before .before .before .before .before in
-    let start = sized .before .before .before .before .before .before in
-    let left = first .first-deliveries .result in
-    let opened = c .before .open-engines .result in (
-      begun-kept (start .pre .0) (start .args .minutes) left opened (start .pre .3) (start .pre .4) (sized .capacities .ensures)
-          (first .first-deliveries .ensures) (c .before .open-engines .ensures),
-      begun-sized (start .pre .0) (start .args .minutes) left opened (start .pre .3) (start .pre .4) (sized .capacities .ensures)
-          (first .first-deliveries .ensures) (c .before .open-engines .ensures),
-      omega arith,
-      start .pre .5,
-    )
+slice-aggregate-search-3 : tie.Need-slice-aggregate-search-3
+slice-aggregate-search-3 c = let made = c .before .before .before .before .before in sym (lent-limits (start made .pre .0 .deliveries))
+
+search-requires : tie.Need-search-requires
+search-requires c κs = tt
 
 same-length : tie.Need-same-length
 same-length c = c .before .table .given
 
-returns-2 : tie.Need-returns-2
-unfolding endedOf written
-returns-2 c =
-    let open-known = c .before .before .before .before in
-    let first = open-known .before .before in
-    let totals = first .before .before in
-    let sized = totals .before .before .before in
-    let start = sized .before .before .before .before .before .before in
-    let same = searched-from (start .pre .0) (start .args .minutes) (first .first-deliveries .result) (open-known .open-engines .result)
-    (start .pre .3) (start .pre .4) (sized .capacities .ensures) (first .first-deliveries .ensures) (open-known .open-engines .ensures)
-    (rw (totals .before .total-capacity .ensures, totals .total-energy .ensures) at (first .before .if1 .left)) in (
-      λ mode given. c .before .before .choose .ensures .0 ∙ sym (ap endedOf (same mode given (start .args .allowance))),
-      λ mode given.
-          c .before .before .choose .ensures .1
-          ∙ sym (ap (λ (r : Result). written r (start .args .table .now)) (same mode given (start .args .allowance))),
-    )
+returns : tie.Need-returns
+returns c =
+    let searched = c .before .before in
+    let made = searched .before .before .before .before .before .before .before in
+    let pre = start made .pre in
+    search-ends (pre .0) _ (made .capacities .ensures) _ (pre .2) (searched .search .ensures)
 
 pub search-at-spec : {M : Type 1} → statement M
 search-at-spec =
     tie.close
     (tie.spec
     capacities-requires
-    total-capacity-requires
-    total-energy-requires
-    returns
-    first-deliveries-requires
-    open-engines-requires
-    choose-requires
+    array-share-prefix-capacities
+    slice-aggregate-search
+    array-share-prefix-energy
+    slice-aggregate-search-2
+    array-share-prefix-limit
+    slice-aggregate-search-3
+    search-requires
     same-length
-    returns-2)
+    returns)

@@ -7,7 +7,7 @@ use native.Mathlib.Omega.{arith}
 use Rattle.planning.specs.Laws.Soundness.Table.{cell-inside}
 use Rattle.planning.specs.Tables.{pieceIn, cell, at}
 use Rattle.planning.specs.Sum.{sum as sumOf}
-use Rattle.allocation.specs.Laws.Lists.{sum-next, next-within}
+use Rattle.planning.specs.Laws.Finite.Sums.{sum-next, next-within}
 use Rattle.allocation.proofs.spare.load.Statement.{statement}
 use Rattle.allocation.proofs.spare.load.Tie as tie
 

@@ -1,155 +1,118 @@
--- `allocation::spare::write` meets its contract. The loop's invariant: the list has the plan's spares in front and is otherwise as it was
--- lent. An engine's capacity and its pieces come from `capacity` and `load`.
+-- `allocation::spare::write` meets its contract. The loop's invariant: what the first engines have to spare is stored in front of the list.
 -- Assumes nothing.
-use mathlib.Core.Path.{_≡_, sym, ap, _∙_}
-use mathlib.Core.List.{List}
+use mathlib.Core.Path.{_≡_, sym, ap₂, _∙_}
 use Prim.Native.Nat.{ℕ, _-_, _≤_, _<_}
 use lib.ListN.{length}
-use lib.Seq.{take-all}
 use native.Mathlib.Omega.{arith}
-use Rattle.planning.specs.declared.Mode.the-variants.{Fixed}
-use Rattle.planning.specs.Capacity.{capacity}
-use Rattle.planning.specs.Modes.{spares}
-use Rattle.planning.specs.Tables.{pieceIn}
-use Rattle.planning.specs.Plan.{EngineInRange}
-use Rattle.planning.specs.Sum.{sum}
-use Rattle.allocation.specs.Laws.Front.{front, front-none, front-more, front-length, front-all}
-use Rattle.allocation.specs.Laws.Lists.{engineAt, engine-in-range, capacity-at, spare-count, spare-at}
-use Rattle.allocation.specs.Numbers.{planOn}
+use Rattle.planning.specs.Bounds.{mostFuel}
+use Rattle.planning.specs.Laws.ByValue.{most-capacity-in}
+use Rattle.planning.specs.Laws.Front.{Stored, stored-none, stored-length, stored-more}
+use Rattle.planning.specs.Laws.Tables.{length-listed, at-listed}
+use Rattle.planning.specs.Tables.{at}
+use Rattle.allocation.specs.Laws.Searches.{amount-at}
+use Rattle.allocation.specs.Laws.Spares.{loadAt, leftOf, spares-stored, load-within}
 use Rattle.allocation.proofs.spare.write.Statement.{statement}
 use Rattle.allocation.proofs.spare.write.Tie as tie
 
 abbrev Inv-loop : tie.InvT-loop
-Inv-loop watts fuels minutes energies limits table spare₀ i₀ spare i =
-    (i ≤ length watts) × (spare ≡ front i (spares (planOn Fixed 0 0 watts fuels energies limits) minutes table) spare₀)
+Inv-loop minutes table spare₀ count rows capacities i₀ spare i = Stored (leftOf count rows capacities table) spare₀ i spare
 
 abbrev μ-loop : tie.MeasureT-loop
-μ-loop watts fuels minutes energies limits table spare₀ i₀ spare i = length watts - i
+μ-loop minutes table spare₀ count rows capacities i₀ spare i = count - i
 
--- ---- of the call
+-- ---- a turn
 
--- the spares that are written, one for each engine
-abbrev written : tie.Start Inv-loop μ-loop → List ℕ
-written c =
-    let a = c .args in spares (planOn Fixed 0 0 (a .watts .now) (a .fuels .now) (a .energies .now) (a .limits .now)) (a .minutes) (a .table .now)
+abbrev start : tie.After-capacities Inv-loop μ-loop → tie.Start Inv-loop μ-loop
+start c = c .before .before .before .before .before
 
-written-count : (c : tie.Start Inv-loop μ-loop) → length (written c) ≡ length (c .args .watts .now)
-written-count c =
-    let a = c .args in
-    spare-count Fixed 0 0 (a .watts .now) (a .fuels .now) (a .energies .now) (a .limits .now) (c .pre .0 .engineLists) (a .minutes) (a .table .now)
+inside : (c : tie.In-loop Inv-loop μ-loop) → c .before .loop .i < length (start (c .before .before) .args .spare .now)
+inside c = omega (arith, c .loop-test .taken, start (c .before .before) .pre .4)
 
--- ---- of a turn
-
-abbrev entry : tie.At-loop Inv-loop μ-loop → tie.Start Inv-loop μ-loop
-entry c = c .before .before .before .before .before .before .before
-
--- the list keeps its length
-kept : (c : tie.At-loop Inv-loop μ-loop) → length (c .loop .spare) ≡ length (entry c .args .spare .now)
-kept c =
-    ap length (c .loop .inv .1)
-    ∙ front-length (c .loop .i) (written (entry c)) (entry c .args .spare .now)
-    (omega (arith, c .loop .inv .0, written-count (entry c)))
-    (omega (arith, c .loop .inv .0, entry c .pre .3))
-
-inside : (c : tie.In-loop Inv-loop μ-loop) → c .before .loop .i < length (entry (c .before) .args .spare .now)
-inside c = omega (arith, c .loop-test .taken, entry (c .before) .pre .3)
-
-engine-fits : (c : tie.In-loop Inv-loop μ-loop)
-    → EngineInRange (engineAt (entry (c .before) .args .watts .now) (entry (c .before) .args .fuels .now) (c .before .loop .i))
-engine-fits c =
-    let usable = entry (c .before) .pre .0 in engine-in-range _ _ (usable .engineLists) (usable .engines) (c .before .loop .i) (c .loop-test .taken)
-
--- the engine's pieces are at most its capacity
+-- the engine's pieces are at most its capacity, and that at most the most fuel
 drawn : (c : tie.In-loop Inv-loop μ-loop)
-    → sum (length (entry (c .before) .args .energies .now))
-    (λ p. pieceIn (length (entry (c .before) .args .watts .now)) (entry (c .before) .args .table .now) p (c .before .loop .i))
-    ≤ capacity (engineAt (entry (c .before) .args .watts .now) (entry (c .before) .args .fuels .now) (c .before .loop .i))
-    (entry (c .before) .args .minutes)
+    → loadAt (start (c .before .before) .args .plan .engines .count) (start (c .before .before) .args .plan .deliveries .count)
+    (start (c .before .before) .args .table .now) (c .before .loop .i)
+    ≤ at (c .before .before .capacities .result) (c .before .loop .i)
 drawn c =
-    let start = entry (c .before) in
-    let a = start .args in
-    let i = c .before .loop .i in
-    let l = c .loop-test .taken in
-    rw (capacity-at Fixed 0 0 _ _ (a .energies .now) (a .limits .now) (start .pre .0 .engineLists) (a .minutes) i l) at (start .pre .4 i l)
+    let made = c .before .before in
+    let pre = start made .pre in
+    load-within (pre .0) _ (made .capacities .ensures) _ (pre .3) (c .before .loop .i) (c .loop-test .taken)
+
+fuelled : (c : tie.In-loop Inv-loop μ-loop) → at (c .before .before .capacities .result) (c .before .loop .i) ≤ mostFuel
+fuelled c =
+    let made = c .before .before in
+    let usable = start made .pre .0 .engines in
+    omega (
+      arith,
+      amount-at usable _ (made .capacities .ensures) (c .before .loop .i),
+      most-capacity-in usable (start made .args .minutes) (c .before .loop .i) (c .loop-test .taken),
+    )
 
 -- ---- the needs
 
+capacities-requires : tie.Need-capacities-requires Inv-loop μ-loop
+capacities-requires c κs = let pre = c .before .before .before .before .pre in (pre .0 .engines, pre .1)
+
 loop-holds : tie.Need-loop-holds Inv-loop μ-loop
-loop-holds c = (omega arith, front-none _ _)
+loop-holds c = stored-none _ _
 
-mul-capacity : tie.Need-mul-capacity Inv-loop μ-loop
-mul-capacity c = omega arith
+load-requires : tie.Need-load-requires Inv-loop μ-loop
+load-requires c κs =
+    let pre = start (c .before .before) .pre in (
+      c .loop-test .taken,
+      pre .0 .engines .count .most,
+      pre .0 .deliveries .count .most,
+      pre .2,
+      omega (arith, drawn c, fuelled c),
+    )
 
-shared-slice-read-capacity : tie.Need-shared-slice-read-capacity Inv-loop μ-loop
-shared-slice-read-capacity c = omega arith
+mul-wide : tie.Need-mul-wide Inv-loop μ-loop
+mul-wide c = omega arith
 
-mul-capacity-2 : tie.Need-mul-capacity-2 Inv-loop μ-loop
-mul-capacity-2 c = omega arith
-
-shared-slice-read-capacity-2 : tie.Need-shared-slice-read-capacity-2 Inv-loop μ-loop
-shared-slice-read-capacity-2 c = omega arith
-
-capacity-requires : tie.Need-capacity-requires Inv-loop μ-loop
-capacity-requires c κs =
-    let turn = c .before .before in (engine-fits turn .watts .most, engine-fits turn .fuel .most, entry (turn .before) .pre .1)
+array-read-wide : tie.Need-array-read-wide Inv-loop μ-loop
+array-read-wide c =
+    let turn = c .before in omega (arith, turn .loop-test .taken, start (turn .before .before) .pre .0 .engines .count .most)
 
 wide-requires : tie.Need-wide-requires Inv-loop μ-loop
 wide-requires c κs = tt
 
-load-requires : tie.Need-load-requires Inv-loop μ-loop
-unfolding capacity
-load-requires c κs =
-    let turn = c .before .before .before .before in
-    let known = entry (turn .before) .pre in (
-      turn .loop-test .taken,
-      known .0 .engineCount,
-      known .0 .deliveryCount,
-      known .2,
-      omega (arith, drawn turn, engine-fits turn .fuel .most),
-    )
-
 sub-spare : tie.Need-sub-spare Inv-loop μ-loop
-sub-spare c =
-    omega (arith, drawn (c .before .before .before .before .before), c .load .ensures, c .before .wide .ensures, c .before .before .capacity .ensures)
+sub-spare c = omega (arith, drawn (c .before .before), c .before .load .ensures, c .wide .ensures)
 
 mul-spare : tie.Need-mul-spare Inv-loop μ-loop
 mul-spare c = omega arith
 
 slice-write-spare : tie.Need-slice-write-spare Inv-loop μ-loop
-slice-write-spare c = let turn = c .before .before .before .before .before in rw (kept (turn .before)) (inside turn)
+slice-write-spare c = let turn = c .before .before in rw (stored-length (turn .before .loop .inv)) (inside turn)
 
 add-i : tie.Need-add-i Inv-loop μ-loop
-add-i c = omega arith
+add-i c = omega (arith, inside (c .before .before))
 
 loop-less : tie.Need-loop-less Inv-loop μ-loop
-loop-less c = omega arith
+loop-less c = omega (arith, c .before .before .loop-test .taken)
 
 loop-again : tie.Need-loop-again Inv-loop μ-loop
 loop-again c =
-    let turn = c .before .before .before .before .before in
-    let start = entry (turn .before) in
-    let a = start .args in
-    let usable = start .pre .0 in
+    let turn = c .before .before in
+    let made = turn .before .before in
+    let a = start made .args in
+    let engines = a .plan .engines .count in
+    let left : ℕ → ℕ = λ i. at (made .capacities .result) i - loadAt engines (a .plan .deliveries .count) (a .table .now) i in
     let here = turn .before .loop in
-    let l = turn .loop-test .taken in (
-      omega (arith, l),
-      front-more (here .i) (c .before .wide .result - c .load .result) (here .spare) (written start) (a .spare .now) (here .inv .1)
-          (rw (c .load .ensures, c .before .wide .ensures, c .before .before .capacity .ensures)
-          (sym (spare-at Fixed 0 0 _ _ _ _ (usable .engineLists) (a .minutes) (a .table .now) (usable .deliveryLists) (here .i) l)))
-          (rw (written-count start) l)
-          (inside turn),
-    )
+    let l = turn .loop-test .taken in
+    stored-more (here .inv) (c .wide .result - c .before .load .result)
+    (ap₂ (_-_) (c .wide .ensures) (c .before .load .ensures) ∙ sym (at-listed engines left (here .i) l))
+    (rw (length-listed engines left) l)
+    (inside turn)
 
 same-length : tie.Need-same-length Inv-loop μ-loop
-same-length c = kept (c .before)
+same-length c = stored-length (c .before .loop .inv)
 
 returns : tie.Need-returns Inv-loop μ-loop
 returns c =
-    let start = entry (c .before) in
-    let spare = start .args .spare .now in
-    let all : c .before .loop .i ≡ length spare = omega (arith, start .pre .3, c .before .loop .inv .0, c .loop-test .left) in
-    c .before .loop .inv .1
-    ∙ rw all (front-all (written start) spare ∙ take-all (length spare) (written start) (omega (arith, start .pre .3, written-count start)))
+    let made = c .before .before in
+    let pre = start made .pre in
+    spares-stored (pre .0) _ (made .capacities .ensures) _ (c .before .loop .inv) (pre .4) (c .loop-test .left)
 
 pub write-spec : {M : Type 1} → statement M
 write-spec =
@@ -157,14 +120,12 @@ write-spec =
     (tie.spec
     Inv-loop
     μ-loop
+    capacities-requires
     loop-holds
-    mul-capacity
-    shared-slice-read-capacity
-    mul-capacity-2
-    shared-slice-read-capacity-2
-    capacity-requires
-    wide-requires
     load-requires
+    mul-wide
+    array-read-wide
+    wide-requires
     sub-spare
     mul-spare
     slice-write-spare

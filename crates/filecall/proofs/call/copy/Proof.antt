@@ -6,7 +6,7 @@ use Prim.Native.Nat.{ℕ, _-_, _≤_}
 use native.Mathlib.Omega.{arith}
 use lib.ListN.{length, drop}
 use lib.Seq.{take-length}
-use Rattle.allocation.specs.Laws.Front.{front, front-none, front-more, front-length}
+use Rattle.planning.specs.Laws.Front.{front, front-none, front-more, front-length}
 use Rattle.planning.specs.Tables.{overFront}
 use Rattle.filecall.proofs.call.copy.Statement.{statement}
 use Rattle.filecall.proofs.call.copy.Tie as tie

@@ -57,7 +57,7 @@ returns : tie.Need-returns
 returns c =
     let call = c .before .before .before .before .before .before in
     let pre = call .before .before .before .before .before .before .before .before .before .before .before .before .before .pre in
-    absurd (plan-unrefused (pre .0) _ _ (pre .1) (pre .2) (call .allocate .ensures .0) (c .enum-told .given .1))
+    absurd (plan-unrefused (pre .0) _ _ (pre .1) (pre .2) (call .allocate .ensures .result) (c .enum-told .given .1))
 
 same-length-3 : tie.Need-same-length-3
 same-length-3 c = c .before .before .before .before .before .before .pieces .given
@@ -70,7 +70,7 @@ returns-2 c =
     let call = c .before .before .before .before .before .before .before in
     let pre = call .before .before .before .before .before .before .before .before .before .before .before .before .before .pre in
     let allocated = call .allocate .ensures in
-    plan-answered (pre .0) _ _ (pre .1) (pre .2) (allocated .0) (allocated .1 .0) (allocated .1 .1 .0) (c .before .allocation .given .1)
+    plan-answered (pre .0) _ _ (pre .1) (pre .2) (allocated .result) (allocated .table) (allocated .spare) (c .before .allocation .given .1)
 
 pub planned-spec : {M : Type 1} → statement M
 planned-spec =

@@ -4,6 +4,7 @@ use mathlib.Core.Path.{_≡_, refl, sym, ap, _∙_}
 use mathlib.Core.Logic.{_≢_, _⊎_, inl, inr}
 use Prim.Native.Nat.{ℕ, zero, suc, _+_, _*_, _≤_, _<_}
 use native.Mathlib.Nat.{mul-zero, mul-add}
+use native.Mathlib.Numerals.{add-one}
 use native.Mathlib.Omega.{arith}
 use Rattle.planning.specs.Sum.{sum, sgn, positives}
 use Rattle.planning.specs.Laws.Finite.Decisions.{equal-or-not, le-or-lt, at-or-else}
@@ -222,3 +223,19 @@ pub positives-without-le : (m : ℕ) (f : ℕ → ℕ) (a : ℕ) → positives m
 positives-without-le m f a =
     positives-mono m f (update f a 0)
     (λ i l. at-or-else (λ k. f k ≡ 0 → update f a 0 k ≡ 0) a (λ e. update-same f a 0 refl) (λ k n e. update-other f a 0 n ∙ e) i)
+
+-- ---- a sum number by number
+
+pub sum-next : (m : ℕ) (f : ℕ → ℕ) → sum (m + 1) f ≡ sum m f + f m
+unfolding sum
+sum-next m f = rw add-one
+
+-- the sum of the first m numbers and the next is at most that of the first n
+pub next-within : (m n : ℕ) (f : ℕ → ℕ) → m < n → sum m f + f m ≤ sum n f
+unfolding sum
+next-within m zero f l = absurd (omega arith)
+next-within m (suc n) f l = go (le-or-lt n m) (next-within m n f)
+  where
+    go : (n ≤ m) ⊎ (m < n) → (m < n → sum m f + f m ≤ sum n f) → sum m f + f m ≤ sum n f + f n
+    go (inl h) before = let e : m ≡ n = omega arith in rw e (omega arith)
+    go (inr h) before = omega (arith, before h)

@@ -12,15 +12,16 @@ use Rattle.planning.specs.Plan.{Plan}
 use Rattle.planning.specs.Search.{Result, found, none, stopped}
 
 -- what holds after each outcome holds
-pub by-outcome : {A : Type 0} (P : A → Type 0) (r : Result) (ifFound ifNone ifStopped : ℕ → A)
-    → (outcomeOf r ≡ Found → (t : ℕ) → P (ifFound t)) → (outcomeOf r ≡ None → (t : ℕ) → P (ifNone t))
-    → (outcomeOf r ≡ Stopped → (t : ℕ) → P (ifStopped t)) → P (byOutcome r ifFound ifNone ifStopped)
+pub by-outcome : {A : Type 0} (P : A → Type 0) (r : Result) (ifFound ifNone ifStopped : Unit {0} → A)
+    → (outcomeOf r ≡ Found → P (ifFound tt)) → (outcomeOf r ≡ None → P (ifNone tt)) → (outcomeOf r ≡ Stopped → P (ifStopped tt))
+    → P (byOutcome r ifFound ifNone ifStopped)
 unfolding byOutcome outcomeOf
-by-outcome P (found tries table) ifFound ifNone ifStopped f n s = f refl tries
-by-outcome P (none tries) ifFound ifNone ifStopped f n s = n refl tries
-by-outcome P (stopped tries) ifFound ifNone ifStopped f n s = s refl tries
+by-outcome P (found tries table) ifFound ifNone ifStopped f n s = f refl
+by-outcome P (none tries) ifFound ifNone ifStopped f n s = n refl
+by-outcome P (stopped tries) ifFound ifNone ifStopped f n s = s refl
 
-while-above : {A : Type 0} (P : A → Type 0) (low high : ℕ) (turn answer : ℕ → A) → (1 < high - low → P (turn 0)) → (high - low ≤ 1 → P (answer 0))
+while-above : {A : Type 0} (P : A → Type 0) (low high : ℕ) (turn answer : Unit {0} → A)
+    → (1 < high - low → P (turn tt)) → (high - low ≤ 1 → P (answer tt))
     → P (whileAbove (ltb 1 (high - low)) turn answer)
 unfolding whileAbove
 while-above P low high turn answer t a = go (ltb 1 (high - low)) refl
@@ -41,20 +42,20 @@ bisect-induction plan P Between end f n s zero low high l b = end low high b l
 bisect-induction plan P Between end f n s (suc bound) low high l b =
     while-above P low high _ _
     (λ k. by-outcome P (searchAt plan ((low + high) / 2)) _ _ _
-    (λ e t. bisect-induction plan P Between end f n s bound low ((low + high) / 2) (omega arith) (f low high b k e))
-    (λ e t. bisect-induction plan P Between end f n s bound ((low + high) / 2) high (omega arith) (n low high b k e))
-    (λ e t. s low high b k e))
+    (λ e. bisect-induction plan P Between end f n s bound low ((low + high) / 2) (omega arith) (f low high b k e))
+    (λ e. bisect-induction plan P Between end f n s bound ((low + high) / 2) high (omega arith) (n low high b k e))
+    (λ e. s low high b k e))
     (λ k. end low high b k)
 
 -- what follows found and none may be replaced by equals
-by-outcome-ext : {A : Type 0} (r : Result) (f g f′ g′ h : ℕ → A) → ((t : ℕ) → f t ≡ f′ t) → ((t : ℕ) → g t ≡ g′ t)
+by-outcome-ext : {A : Type 0} (r : Result) (f g f′ g′ h : Unit {0} → A) → f tt ≡ f′ tt → g tt ≡ g′ tt
     → byOutcome r f g h ≡ byOutcome r f′ g′ h
 unfolding byOutcome
-by-outcome-ext (found tries table) f g f′ g′ h a b = a tries
-by-outcome-ext (none tries) f g f′ g′ h a b = b tries
+by-outcome-ext (found tries table) f g f′ g′ h a b = a
+by-outcome-ext (none tries) f g f′ g′ h a b = b
 by-outcome-ext (stopped tries) f g f′ g′ h a b = refl
 
-while-above-ext : {A : Type 0} (low high : ℕ) (turn turn′ answer : ℕ → A) → (1 < high - low → turn 0 ≡ turn′ 0)
+while-above-ext : {A : Type 0} (low high : ℕ) (turn turn′ answer : Unit {0} → A) → (1 < high - low → turn tt ≡ turn′ tt)
     → whileAbove (ltb 1 (high - low)) turn answer ≡ whileAbove (ltb 1 (high - low)) turn′ answer
 unfolding whileAbove
 while-above-ext low high turn turn′ answer h = go (ltb 1 (high - low)) refl
@@ -73,5 +74,5 @@ bisect-bound plan (suc bound) zero low high l m = absurd (omega arith)
 bisect-bound plan (suc bound) (suc larger) low high l m =
     while-above-ext low high _ _ _
     (λ k. by-outcome-ext (searchAt plan ((low + high) / 2)) _ _ _ _ _
-    (λ t. bisect-bound plan bound larger low ((low + high) / 2) (omega arith) (omega arith))
-    (λ t. bisect-bound plan bound larger ((low + high) / 2) high (omega arith) (omega arith)))
+    (bisect-bound plan bound larger low ((low + high) / 2) (omega arith) (omega arith))
+    (bisect-bound plan bound larger ((low + high) / 2) high (omega arith) (omega arith)))

@@ -1,0 +1,4 @@
+-- The checks on numbers: what they come to, and the parts that the code checks them in.
+pub mod Checked
+pub mod Laws
+pub mod Parts
