@@ -1,36 +1,29 @@
--- What the scans of bytes find.
+-- What a scan of text passes, and where it stops.
 -- Assumes nothing.
 use mathlib.Core.Path.{_≡_}
-use mathlib.Core.Bool.{Bool, true, false, cond, not, _&&_}
-use mathlib.Core.List.{List, [], _∷_}
-use Prim.Native.Nat.{ℕ, suc, _+_, _≤_, _<_}
-use lib.Dec.{eqb}
-use lib.ListN.{length, drop, getD}
-use Rattle.rfc4180.specs.Bytes.{quote, inRange}
-use Rattle.rfc4180.specs.Records.{outsideAfter}
+use mathlib.Core.Bool.{Bool, true, false}
+use mathlib.Core.List.{List}
+use Prim.Native.Nat.{ℕ, _≤_, _<_}
+use lib.ListN.{length, getD}
+use Rattle.rfc4180.specs.declared.ByteClass.{ByteClass}
+use Rattle.rfc4180.specs.declared.ByteClass.the-variants.{Text, Quote, Comma, CarriageReturn, LineFeed, Refused}
+use Rattle.rfc4180.specs.Bytes.{classOf}
 
--- the bytes that a scan passes: from low to high, other than a quote and b
-unfoldable pub isPlain : (low high b x : ℕ) → Bool
-unfolding inRange
-isPlain low high b x = inRange low high x && not (eqb x quote) && not (eqb x b)
+-- the bytes that a scan passes, by their class: text and, inside quotes, commas
+unfoldable pub isPlain : (quoted : Bool) → ByteClass → Bool
+isPlain quoted Text = true
+isPlain quoted Quote = false
+isPlain quoted Comma = quoted
+isPlain quoted CarriageReturn = false
+isPlain quoted LineFeed = false
+isPlain quoted Refused = false
 
 -- between two places all bytes are plain
-abbrev pub Passed : (bytes : List ℕ) → (low high b from to : ℕ) → Type 0
-Passed bytes low high b from to = (i : ℕ) → from ≤ i → i < to → (i < length bytes) × (isPlain low high b (getD bytes i 0) ≡ true)
+abbrev pub Passed : (bytes : List ℕ) → (quoted : Bool) → (from to : ℕ) → Type 0
+Passed bytes quoted from to = (i : ℕ) → from ≤ i → i < to → (i < length bytes) × (isPlain quoted (classOf (getD bytes i 0)) ≡ true)
 
 -- the first place from a place on, before an end, whose byte is not plain, or that end
-pub record Found (bytes : List ℕ) (low high b from end r : ℕ) : Type 0 where
+pub record Found (bytes : List ℕ) (quoted : Bool) (from end r : ℕ) : Type 0 where
   pub behind : from ≤ r
-  pub passed : Passed bytes low high b from r
-  pub stops : r < end → isPlain low high b (getD bytes r 0) ≡ false
-
--- how many bytes stand before the first b outside quotes, all where there is none
-unfoldable pub ahead : (b : ℕ) → (outside : Bool) → List ℕ → ℕ
-unfolding outsideAfter
-ahead b outside [] = 0
-ahead b outside (x ∷ rest) = cond (outside && eqb x b) 0 (suc (ahead b (outsideAfter outside x) rest))
-
--- the first place from a place outside quotes on that holds a byte outside quotes, or the end
-pub record FoundOutside (bytes : List ℕ) (from b r : ℕ) : Type 0 where
-  pub place : r ≡ from + ahead b true (drop from bytes)
-  pub stops : r < length bytes → getD bytes r 0 ≡ b
+  pub passed : Passed bytes quoted from r
+  pub stops : r < end → isPlain quoted (classOf (getD bytes r 0)) ≡ false

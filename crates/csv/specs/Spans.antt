@@ -1,8 +1,8 @@
--- What the functions on slices return and leave, in terms of the reading and the writer beside this file.
+-- What the functions on slices return and leave, in terms of RFC 4180's reading.
 -- Assumes nothing.
 use mathlib.Core.Bool.{Bool, true, false, cond, _||_, _&&_}
 use mathlib.Core.List.{List, [], _∷_, _++_}
-use mathlib.Core.Option.{Option, none, some}
+use mathlib.Core.Option.{Option, none, some, Option·map}
 use Prim.Native.Nat.{ℕ, _+_, _-_}
 use lib.Dec.{leb, eqb}
 use lib.ListN.{length, take, drop, getD}
@@ -34,54 +34,62 @@ fieldFrom from (field ∷ next ∷ fields) = record { end = from + length field;
 unfoldable pub fieldSpan : (text : List ℕ) → (from : ℕ) → FieldSpan
 fieldSpan text from = fieldFrom from (rawFields (drop from text))
 
--- a field that ends at a place: before a comma, before a record end, or with the file; and no field of the grammar
-unfoldable pub beforeComma : (end : ℕ) → FieldRead
-beforeComma end = record { sound = true; end = end; next = end + 1; more = true }
+-- a field of the grammar that was read where it begins: it ends before a comma, before a record end, or with the file
+abbrev pub soundField : (end next : ℕ) → (more doubled : Bool) → FieldRead
+soundField end next more doubled = record { sound = true; end = end; next = next; more = more; doubled = doubled }
 
-unfoldable pub beforeRecordEnd : (end : ℕ) → FieldRead
-beforeRecordEnd end = record { sound = true; end = end; next = end + 2; more = false }
+abbrev pub beforeComma : (end : ℕ) → (doubled : Bool) → FieldRead
+beforeComma end doubled = soundField end (end + 1) true doubled
 
-unfoldable pub withFile : (end : ℕ) → FieldRead
-withFile end = record { sound = true; end = end; next = end; more = false }
+abbrev pub beforeRecordEnd : (end : ℕ) → (doubled : Bool) → FieldRead
+beforeRecordEnd end doubled = soundField end (end + 2) false doubled
 
-unfoldable pub brokenField : FieldRead
-brokenField = record { sound = false; end = 0; next = 0; more = false }
+abbrev pub withFile : (end : ℕ) → (doubled : Bool) → FieldRead
+withFile end doubled = soundField end end false doubled
 
--- the first raw field of a record by its value, by the fields behind it and by what stands behind the record
-unfoldable pub readBy : (value : Option (List ℕ)) → (end : ℕ) → (others : List (List ℕ)) → (behind : Option (List ℕ)) → FieldRead
-readBy none end others behind = brokenField
-readBy (some value) end (next ∷ others) behind = beforeComma end
-readBy (some value) end [] (some rest) = beforeRecordEnd end
-readBy (some value) end [] none = withFile end
-
-unfoldable pub firstRead : (valueOf : List ℕ → Option (List ℕ)) → (from : ℕ) → (raws : List (List ℕ)) → (behind : Option (List ℕ)) → FieldRead
-firstRead valueOf from [] behind = brokenField
-firstRead valueOf from (raw ∷ others) behind = readBy (valueOf raw) (from + length raw) others behind
-
--- the field that begins at a place of a file: the first raw field of the record from there on
-unfoldable pub fieldRead : (file : List ℕ) → (from : ℕ) → FieldRead
-fieldRead file from =
-    let front = firstRecord (drop from file) in
-    firstRead fieldValue from (rawFields (front .text)) (front .behind)
-
--- the part of a raw field between its quotes, or all of it where it does not begin with a quote or is shorter than two bytes
-unfoldable pub insideOf : List ℕ → List ℕ
-insideOf raw = cond (leb 2 (length raw) && eqb (getD raw 0 0) quote) (take (length raw - 2) (drop 1 raw)) raw
+-- no field of the grammar
+abbrev pub brokenField : FieldRead
+brokenField = record { sound = false; end = 0; next = 0; more = false; doubled = false }
 
 -- whether a quote stands among some bytes
 unfoldable pub holdsQuote : List ℕ → Bool
 holdsQuote [] = false
 holdsQuote (b ∷ bs) = eqb b quote || holdsQuote bs
 
--- document 01: a field "that holds no doubled quote" has a part of it for its value. Inside a field of the grammar every quote is
--- doubled, so it holds a doubled quote where a quote stands inside it.
-unfoldable pub formBy : Option (List ℕ) → (quoteInside : Bool) → FieldForm
-formBy none quoteInside = form.Broken
-formBy (some value) true = form.Doubled
-formBy (some value) false = form.Part
+-- document 01: a field "that holds no doubled quote". Only a doubled quote stands for a quote, so a field of the grammar holds one exactly
+-- where its value has a quote. None where a raw field is no field of the grammar.
+unfoldable pub doubledIn : (raw : List ℕ) → Option Bool
+doubledIn raw = Option·map holdsQuote (fieldValue raw)
 
-unfoldable pub formOf : List ℕ → FieldForm
-formOf raw = formBy (fieldValue raw) (holdsQuote (insideOf raw))
+-- the first raw field of a record, by whether it holds a doubled quote, by the fields behind it and by what stands behind the record
+unfoldable pub readBy : (doubled : Option Bool) → (end : ℕ) → (others : List (List ℕ)) → (behind : Option (List ℕ)) → FieldRead
+readBy none end others behind = brokenField
+readBy (some doubled) end (next ∷ others) behind = beforeComma end doubled
+readBy (some doubled) end [] (some rest) = beforeRecordEnd end doubled
+readBy (some doubled) end [] none = withFile end doubled
+
+unfoldable pub firstRead : (doubled : List ℕ → Option Bool) → (from : ℕ) → (raws : List (List ℕ)) → (behind : Option (List ℕ)) → FieldRead
+firstRead doubled from [] behind = brokenField
+firstRead doubled from (raw ∷ others) behind = readBy (doubled raw) (from + length raw) others behind
+
+-- the field that begins at a place of a file: the first raw field of the record from there on
+unfoldable pub fieldRead : (file : List ℕ) → (from : ℕ) → FieldRead
+fieldRead file from =
+    let front = firstRecord (drop from file) in
+    firstRead doubledIn from (rawFields (front .text)) (front .behind)
+
+-- the part of a raw field between its quotes, or all of it where it does not begin with a quote or is shorter than two bytes
+unfoldable pub insideOf : List ℕ → List ℕ
+insideOf raw = cond (leb 2 (length raw) && eqb (getD raw 0 0) quote) (take (length raw - 2) (drop 1 raw)) raw
+
+-- what a raw field is
+unfoldable pub formBy : (doubled : Option Bool) → FieldForm
+formBy none = form.Broken
+formBy (some true) = form.Doubled
+formBy (some false) = form.Part
+
+unfoldable pub formOf : (raw : List ℕ) → FieldForm
+formOf raw = formBy (doubledIn raw)
 
 -- undoing a field into a buffer with that much space, and what the buffer then holds
 unfoldable pub undoneBy : Option (List ℕ) → (space : ℕ) → Undone

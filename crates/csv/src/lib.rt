@@ -25,14 +25,15 @@ pub struct FieldSpan {
     pub more: bool,
 }
 
-// A field read where it begins in a file: whether it is one of the grammar, where it ends, where what follows begins, and whether that is
-// a further field of the record, behind a comma. What follows otherwise is the next record, behind CR LF, or the end of the file. Where
-// it is no field of the grammar nothing else is told.
+// A field read where it begins in a file: whether it is one of the grammar, where it ends, where what follows begins, whether that is a
+// further field of the record, behind a comma, and whether the field holds a doubled quote. What follows otherwise is the next record,
+// behind CR LF, or the end of the file. Where it is no field of the grammar nothing else is told.
 pub struct FieldRead {
     pub sound: bool,
     pub end: usize,
     pub next: usize,
     pub more: bool,
+    pub doubled: bool,
 }
 
 // What a raw field is: no field of the grammar; a field whose value is a part of it; or one with doubled quotes, to be undone.

@@ -187,7 +187,7 @@ fn show_written(value: &[u8]) {
     print(b"value ");
     show(value);
     let mut out = [b'.'; 24];
-    let wrote = lines::write_field(value, &mut out, 2);
+    let wrote = lines::write_field(value, b"", &mut out, lines::Wrote::Next(2));
     print(b"\noutput ");
     show(&out);
     print(b"\nread back ");

@@ -1,58 +1,54 @@
--- What is proved about a mode as a number: without a mode a call is refused just as it is with 0 minutes.
+-- What is proved about a mode as a number: without a mode a call is refused just as it is with 0 minutes, so the exported call keeps its
+-- promises.
 -- Assumes nothing.
 use mathlib.Core.Path.{_≡_, refl, sym, ap, _∙_}
-use mathlib.Core.Bool.{Bool, true, false, cond}
-use mathlib.Core.List.{List, [], _∷_}
+use mathlib.Core.Logic.{_⊎_, inl, inr}
+use mathlib.Core.Bool.{Bool, true, false}
+use mathlib.Core.List.{List}
 use mathlib.Core.Option.{Option, none, some}
-use Prim.Native.Nat.{ℕ, _+_}
+use Prim.Native.Nat.{ℕ, _+_, _≤_, _<_}
+use native.Mathlib.Omega.{arith}
 use lib.ListN.{length}
+use borrow.Author.Tests.{le-leb, lt-leb}
+use Rattle.planning.specs.declared.Allocation.{Allocation}
 use Rattle.planning.specs.declared.Allocation.the-variants.{Refused}
 use Rattle.planning.specs.declared.Fault.{Fault}
 use Rattle.planning.specs.declared.Fault.the-variants.{Fields, Value, Count, NoEngine, Space}
 use Rattle.planning.specs.declared.Refusal.{Refusal}
 use Rattle.planning.specs.Bounds.{mostMinutes, mostTries}
-use Rattle.planning.specs.Modes.{tableAfter, sparesAfter}
-use Rattle.planning.specs.Numbers.{Call, planOf, within, engineFault, deliveryFault, refusalOf, answeredBy, allocation, unlessRefused, tableOnExit, spareOnExit, callOn}
+use Rattle.planning.specs.Laws.Finite.Decisions.{le-or-lt}
+use Rattle.planning.specs.Laws.Refusals.{Only, only-check, only-then, only-each}
+use Rattle.planning.specs.Numbers.{Call, planOf, within, engineFault, deliveryFault, refusalOf, answeredBy, allocation, callOn}
 use Rattle.planning.specs.Plan.{Engine, Delivery}
+use Rattle.planning.specs.Promises.{Promised}
 use Rattle.planning.specs.Refusals.{faultNumber, check, checkEach, _then_}
+use Rattle.export.specs.declared.PlanReply.{PlanReply}
 use Rattle.export.specs.Numbers.{isMode, noMode, withoutMode, allocationBy, tableBy, spareBy, minutesUnder}
+use Rattle.export.specs.Replies.{replyOf, Replied}
 
 -- ---- checks that refuse by 6 alone
 
-unfoldable By6 : Option Refusal → Type 0
-By6 none = Unit
-By6 (some refusal) = refusal .fault ≡ Value
+abbrev Is6 : Fault → (place : ℕ) → Type 0
+Is6 fault place = fault ≡ Value
 
-check-by-6 : (t : Bool) (place : ℕ) → By6 (check t Value place)
-unfolding By6 check
-check-by-6 true place = tt
-check-by-6 false place = refl
-
-then-by-6 : (a b : Option Refusal) → By6 a → By6 b → By6 (a then b)
-unfolding By6 _then_
-then-by-6 none b ha hb = hb
-then-by-6 (some refusal) b ha hb = ha
-
-each-by-6 : {A : Type 0} (one : ℕ → A → Option Refusal) → ((r : ℕ) (x : A) → By6 (one r x)) → (r : ℕ) (xs : List A) → By6 (checkEach one r xs)
-unfolding By6 checkEach
-each-by-6 one h r [] = tt
-each-by-6 one h r (x ∷ xs) = then-by-6 _ _ (h r x) (each-by-6 one h (r + 1) xs)
-
-engine-by-6 : (r : ℕ) (e : Engine) → By6 (engineFault r e)
+engines-by-6 : (es : List Engine) → Only Is6 (checkEach engineFault 2 es)
 unfolding engineFault
-engine-by-6 r e = then-by-6 _ _ (check-by-6 _ r) (check-by-6 _ r)
+engines-by-6 es =
+    only-each Is6 engineFault (1 + length es) (λ r e h k. only-then Is6 (only-check Is6 _ Value r refl) (only-check Is6 _ Value r refl)) 2 es (omega arith) (omega arith)
 
-delivery-by-6 : (r : ℕ) (d : Delivery) → By6 (deliveryFault r d)
+deliveries-by-6 : (first : ℕ) (ds : List Delivery) → Only Is6 (checkEach deliveryFault (2 + first) ds)
 unfolding deliveryFault
-delivery-by-6 r d = then-by-6 _ _ (check-by-6 _ r) (check-by-6 _ r)
+deliveries-by-6 first ds =
+    only-each Is6 deliveryFault (1 + first + length ds) (λ r d h k. only-then Is6 (only-check Is6 _ Value r refl) (only-check Is6 _ Value r refl))
+    (2 + first) ds (omega arith) (omega arith)
 
 -- ---- the checks in order
 
--- without a mode, what 6 would say of the rest comes to 6 at the plan's record
-only-6 : (later : Option Refusal) → By6 later → withoutMode later ≡ noMode
-unfolding By6 withoutMode faultNumber
+-- without a mode, what 6 would say comes to 6 at the plan's record
+only-6 : (later : Option Refusal) → Only Is6 later → withoutMode later ≡ noMode
+unfolding withoutMode faultNumber
 only-6 none h = refl
-only-6 (some refusal) h = rw (h) refl
+only-6 (some refusal) h = rw (h refusal refl)
 
 -- a check of another number refuses with a mode and without
 other-check : (t : Bool) (fault : Fault) → withoutMode (some (record { fault = fault; place = 0 })) ≡ record { fault = fault; place = 0 }
@@ -85,10 +81,9 @@ no-minutes : (call : Call) → refusalOf (inMinutes 0 call) ≡ some (withoutMod
 unfolding refusalOf withoutMode faultNumber
 no-minutes call =
     let all-by-6 =
-    then-by-6 _ _ (check-by-6 (within 1 mostMinutes (call .minutes)) 1)
-    (then-by-6 _ _ (check-by-6 (within 0 mostTries (call .allowance)) 1)
-    (then-by-6 _ _ (each-by-6 engineFault engine-by-6 2 (planOf call .engines))
-    (each-by-6 deliveryFault delivery-by-6 (2 + length (call .watts)) (planOf call .deliveries)))) in
+    only-then Is6 (only-check Is6 (within 1 mostMinutes (call .minutes)) Value 1 refl)
+    (only-then Is6 (only-check Is6 (within 0 mostTries (call .allowance)) Value 1 refl)
+    (only-then Is6 (engines-by-6 (planOf call .engines)) (deliveries-by-6 (length (call .watts)) (planOf call .deliveries)))) in
     other-check _ Fields refl _ _
     (other-check _ Fields refl _ _
     (other-check _ NoEngine refl _ _
@@ -97,34 +92,48 @@ no-minutes call =
     (other-check _ Space refl _ _
     (other-check _ Space refl _ _ (zero-minutes _ ∙ ap some (sym (only-6 _ all-by-6)))))))))
 
+no-minutes-refused : (call : Call) → allocation (inMinutes 0 call) ≡ Refused (withoutMode (refusalOf call))
+unfolding allocation answeredBy
+no-minutes-refused call = rw (no-minutes call)
+
 -- ---- what the code hands on
 
--- With a mode and without, the allocation in the minutes that the code hands on answers or refuses as the call by the mode's number does ..
-known-or-not : (known : Bool) (call : Call)
-    → allocation (inMinutes (cond known (call .minutes) 0) call) ≡ cond known (allocation call) (Refused (withoutMode (refusalOf call)))
-unfolding allocation answeredBy
-known-or-not true call = refl
-known-or-not false call = ap (answeredBy (inMinutes 0 call)) (no-minutes call)
+-- the minutes that the code hands on are the call's where the mode is one, and 0 where it is none
+with-mode : (mode minutes : ℕ) → mode ≤ 1 → minutesUnder mode minutes ≡ minutes
+unfolding isMode minutesUnder
+with-mode mode minutes known = rw (le-leb mode 1 known)
 
-pub allocated : (mode : ℕ) (call : Call) → allocation (inMinutes (minutesUnder mode (call .minutes)) call) ≡ allocationBy mode call
-unfolding minutesUnder allocationBy
-allocated mode call = known-or-not (isMode mode) call
+without-mode : (mode minutes : ℕ) → 1 < mode → minutesUnder mode minutes ≡ 0
+unfolding isMode minutesUnder
+without-mode mode minutes unknown = rw (lt-leb mode 1 unknown)
 
--- .. and leaves the same in what is lent.
-table-or-kept : (known : Bool) (call : Call) → tableOnExit (inMinutes (cond known (call .minutes) 0) call) ≡ cond known (tableOnExit call) (call .table)
-unfolding tableOnExit unlessRefused
-table-or-kept true call = refl
-table-or-kept false call = ap (λ refusal. unlessRefused refusal (call .table) (tableAfter (planOf (inMinutes 0 call)) (call .table))) (no-minutes call)
+-- what the allocation promises of the minutes handed on, for a mode and for none
+module _ (mode : ℕ) (call : Call) {answer : Allocation} {table spare : List ℕ}
+    (promised : Promised (inMinutes (minutesUnder mode (call .minutes)) call) answer table spare) where
+  known : mode ≤ 1 → Promised call answer table spare
+  known k = rw (with-mode mode (call .minutes) k) at promised
 
-pub table-left : (mode : ℕ) (call : Call) → tableOnExit (inMinutes (minutesUnder mode (call .minutes)) call) ≡ tableBy mode call
-unfolding minutesUnder tableBy
-table-left mode call = table-or-kept (isMode mode) call
+  unknown : 1 < mode → (answer ≡ Refused (withoutMode (refusalOf call))) × (table ≡ call .table) × (spare ≡ call .spare)
+  unknown k =
+      let refused = (rw (without-mode mode (call .minutes) k) at (promised .result)) ∙ no-minutes-refused call in
+      let kept = promised .turnedDown _ refused in
+      (refused, kept .1, kept .2)
 
-spare-or-kept : (known : Bool) (call : Call) → spareOnExit (inMinutes (cond known (call .minutes) 0) call) ≡ cond known (spareOnExit call) (call .spare)
-unfolding spareOnExit unlessRefused
-spare-or-kept true call = refl
-spare-or-kept false call = ap (λ refusal. unlessRefused refusal (call .spare) (sparesAfter (planOf (inMinutes 0 call)) (call .spare))) (no-minutes call)
+  by-mode : (mode ≤ 1) ⊎ (1 < mode) → (answer ≡ allocationBy mode call) × (table ≡ tableBy mode call) × (spare ≡ spareBy mode call)
+  unfolding allocationBy tableBy spareBy isMode
+  by-mode (inl k) = let p = known k in rw (le-leb mode 1 k) (p .result, p .table, p .spare)
+  by-mode (inr k) = rw (lt-leb mode 1 k) (unknown k)
 
-pub spare-left : (mode : ℕ) (call : Call) → spareOnExit (inMinutes (minutesUnder mode (call .minutes)) call) ≡ spareBy mode call
-unfolding minutesUnder spareBy
-spare-left mode call = spare-or-kept (isMode mode) call
+  -- so the exported call keeps its promises
+  pub replied : {r : PlanReply} → r ≡ replyOf answer → Replied mode call r table spare
+  replied e =
+      let (result, left, spared) = by-mode (le-or-lt mode 1) in
+      record {
+        answer = answer;
+        reply = e;
+        result = result;
+        table = left;
+        spare = spared;
+        promised = known;
+        turnedDown = λ k. let (refused, kept, spared) = unknown k in ((_, refused), kept, spared);
+      }

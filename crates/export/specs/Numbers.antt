@@ -29,7 +29,7 @@ noMode = record { fault = Value; place = 1 }
 -- "It checks 3, 8, 7, 9, then 6 over minutes, ..": MODE stands in the plan's record, left of MINUTES. So a number that is no mode is
 -- refused by 3, 8, 7 or 9 where a mode would be, and by 6 at place 1 in every other case.
 unfoldable pub withoutMode : Option Refusal → Refusal
-withoutMode (some refusal) = cond (eqb (faultNumber (refusal .fault)) 6) noMode refusal
+withoutMode (some refusal) = cond (eqb (faultNumber (refusal .fault)) (faultNumber Value)) noMode refusal
 withoutMode none = noMode
 
 unfoldable pub allocationBy : (mode : ℕ) → Call → Allocation

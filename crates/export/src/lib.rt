@@ -10,9 +10,8 @@ use planning::Refusal;
 ghost use mathlib.Core.Path.{_≡_};
 ghost use Rattle.planning.specs.Numbers.{callOn};
 ghost use Rattle.filecall.specs.Calls.{callWith};
-ghost use Rattle.planfile.specs.FileCall.{answerToFile, fileTable, fileSpare, fileOutput};
-ghost use Rattle.export.specs.Numbers.{modeOf, minutesUnder, allocationBy, tableBy, spareBy};
-ghost use Rattle.export.specs.Replies.{wordOf, answeredBy, refusedBy, replyOf, fileReplyOf, PermittedReply};
+ghost use Rattle.export.specs.Numbers.{modeOf, minutesUnder};
+ghost use Rattle.export.specs.Replies.{wordOf, answeredBy, refusedBy, Replied, FileReplied, LookupReplied};
 
 // What planning comes to: the word is 0 found, 1 none, 2 stopped, 3 refused. An answer has its minutes and tries, and with a file the
 // length of its print; a refusal has its number and place. The other numbers are 0.
@@ -104,9 +103,11 @@ pub extern "C" fn fothwen_allocate<'a>(
     table: &mut [u64],
     spare: &mut [u64],
 ) -> PlanReply
-    ensures result { λ r. ⌜ r ≡ replyOf (allocationBy mode (callOn (modeOf mode) minutes allowance (now (watts .entry)) (now (fuels .entry)) (now (energies .entry)) (now (limits .entry)) (now (table .entry)) (now (spare .entry)))) ⌝ }
-    ensures table { λ r. ⌜ now (table .exit) ≡ tableBy mode (callOn (modeOf mode) minutes allowance (now (watts .entry)) (now (fuels .entry)) (now (energies .entry)) (now (limits .entry)) (now (table .entry)) (now (spare .entry))) ⌝ }
-    ensures spare { λ r. ⌜ now (spare .exit) ≡ spareBy mode (callOn (modeOf mode) minutes allowance (now (watts .entry)) (now (fuels .entry)) (now (energies .entry)) (now (limits .entry)) (now (table .entry)) (now (spare .entry))) ⌝ }
+    ensures { λ r. ⌜
+        Replied mode
+        (callOn (modeOf mode) minutes allowance (now (watts .entry)) (now (fuels .entry)) (now (energies .entry)) (now (limits .entry)) (now (table .entry)) (now (spare .entry)))
+        r (now (table .exit)) (now (spare .exit))
+        ⌝ }
 {
     let r = allocation::allocate(
         mode_of(mode),
@@ -133,10 +134,11 @@ pub extern "C" fn fothwen_plan_file(
     spare: &mut [u64],
     output: &mut [u8],
 ) -> PlanReply
-    ensures result { λ r. ⌜ r ≡ fileReplyOf (answerToFile (callWith (now (file .entry)) (now (table .entry)) (now (spare .entry)) (now (output .entry)))) ⌝ }
-    ensures table { λ r. ⌜ now (table .exit) ≡ fileTable (callWith (now (file .entry)) (now (table .entry)) (now (spare .entry)) (now (output .entry))) ⌝ }
-    ensures spare { λ r. ⌜ now (spare .exit) ≡ fileSpare (callWith (now (file .entry)) (now (table .entry)) (now (spare .entry)) (now (output .entry))) ⌝ }
-    ensures output { λ r. ⌜ now (output .exit) ≡ fileOutput (callWith (now (file .entry)) (now (table .entry)) (now (spare .entry)) (now (output .entry))) ⌝ }
+    ensures { λ r. ⌜
+        FileReplied
+        (callWith (now (file .entry)) (now (table .entry)) (now (spare .entry)) (now (output .entry)))
+        r (now (table .exit)) (now (spare .exit)) (now (output .exit))
+        ⌝ }
 {
     let r = filecall::plan_file(file, table, spare, output);
     match r {
@@ -148,7 +150,7 @@ pub extern "C" fn fothwen_plan_file(
 // `lookup::spare_lookup`. Which engine it names is the program's choice.
 #[no_mangle]
 pub extern "C" fn fothwen_spare_lookup(spare: &[u64], amount: u64) -> LookupReply
-    ensures { λ r. ⌜ PermittedReply (now (spare .entry)) amount r ⌝ }
+    ensures { λ r. ⌜ LookupReplied (now (spare .entry)) amount r ⌝ }
 {
     let found = lookup::spare_lookup(spare, amount);
     match found {

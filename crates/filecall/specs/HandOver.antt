@@ -1,57 +1,58 @@
--- What is handed over of an answer, by whether its print fits into the output lent, and the plan of a file that was read by value.
+-- A plan by value answered: planned on tables of its own, and handed over where its print fits into the output lent.
 -- Assumes nothing.
-use mathlib.Core.Bool.{Bool, true, false}
+use mathlib.Core.Path.{_≡_}
 use mathlib.Core.List.{List}
-use Prim.Native.Nat.{ℕ}
+use Prim.Native.Nat.{ℕ, _*_}
 use lib.Dec.{leb}
 use lib.ListN.{length}
 use Rattle.planning.specs.declared.Answer.{Answer}
 use Rattle.planning.specs.declared.Fault.the-variants.{Space}
 use Rattle.planning.specs.declared.Outcome.{Outcome}
 use Rattle.planning.specs.declared.Outcome.the-variants.{Found, None, Stopped}
-use Rattle.planning.specs.Bounds.{mostEngines, mostDeliveries}
+use Rattle.planning.specs.Modes.{planned, answerOf, tableAfter, sparesAfter}
 use Rattle.planning.specs.Tables.{overFront}
-use Rattle.planning.specs.Plan.{All, InRange}
 use Rattle.planfile.specs.declared.FileAnswer.{FileAnswer}
-use Rattle.planfile.specs.declared.FileAnswer.the-variants.{Printed, Refused}
-use Rattle.planfile.specs.FileCall.{printed}
-use Rattle.planfile.specs.FilePlan.{FilePlan, unnamed, engineNames, deliveryNames}
-use Rattle.planfile.specs.Holding.{SoundName}
+use Rattle.planfile.specs.FileCall.{answerBy, onExit, printed}
+use Rattle.planfile.specs.FilePlan.{FilePlan, unnamed}
 use Rattle.planfile.specs.Reading.{Read, accepted, require, _>>=_}
-use Rattle.filecall.specs.declared.reading.Plan.{Plan}
-use Rattle.filecall.specs.Items.{Holding}
-use Rattle.filecall.specs.PlanRead.{planIn, engineColumns, deliveryColumns}
+use Rattle.planreader.specs.declared.FilePlan.{FilePlan as ByValue}
+use Rattle.planreader.specs.Plans.{planBy, UsablePlan}
 
--- the answer with the length of its print, or 9
-unfoldable pub answerIf : (fits : Bool) → Answer → (n : ℕ) → FileAnswer
-answerIf true answer n = Printed answer n
-answerIf false answer n = Refused (record { fault = Space; place = 0 })
-
--- numbers, which found alone writes
-unfoldable pub numbersIf : (fits : Bool) → Outcome → (new lent : List ℕ) → List ℕ
-numbersIf true Found new lent = overFront new lent
-numbersIf true None new lent = lent
-numbersIf true Stopped new lent = lent
-numbersIf false outcome new lent = lent
-
--- the print
-unfoldable pub bytesIf : (fits : Bool) → (print lent : List ℕ) → List ℕ
-bytesIf true print lent = overFront print lent
-bytesIf false print lent = lent
-
--- the plan of a struct by value, and that it is one to be planned and printed
-abbrev pub planBy : Plan → FilePlan
-planBy p = planIn (p .mode) (p .minutes) (p .allowance) (p .engines) (p .deliveries) (engineColumns p) (deliveryColumns p)
-
-pub record UsablePlan (p : Plan) : Type 0 where
-  pub engines : Holding (p .engines) mostEngines (engineColumns p)
-  pub deliveries : Holding (p .deliveries) mostDeliveries (deliveryColumns p)
-  pub inRange : InRange (unnamed (planBy p))
-  pub enginesNamed : All SoundName (engineNames (planBy p))
-  pub deliveriesNamed : All SoundName (deliveryNames (planBy p))
+-- the answer to a plan, with what is left in tables of the plan's own lengths that were lent for it
+pub record Answers (p : ByValue) (answer′ : Answer) (pieces spares : List ℕ) : Type 0 where
+  pub usable : UsablePlan p
+  pub answer : answer′ ≡ answerOf (planned (unnamed (planBy p)))
+  pub ownTable : List ℕ
+  pub cells : length ownTable ≡ p .deliveries * p .engines
+  pub table : pieces ≡ tableAfter (unnamed (planBy p)) ownTable
+  pub ownSpare : List ℕ
+  pub count : length ownSpare ≡ p .engines
+  pub spare : spares ≡ sparesAfter (unnamed (planBy p)) ownSpare
 
 -- 9 for "output longer than the lent space"
 unfoldable pub withSpace : FilePlan → (output : List ℕ) → Read FilePlan
 withSpace f output = do
   _ ← require (leb (length (printed f)) (length output)) Space 0
   accepted f
+
+-- the lists that are lent to a call with a file
+pub record Lent : Type 0 where
+  pub table : List ℕ
+  pub spare : List ℕ
+  pub output : List ℕ
+
+abbrev pub lentLists : (table spare output : List ℕ) → Lent
+lentLists table spare output = record { table = table; spare = spare; output = output }
+
+-- what is returned of a plan, and what the lent lists hold then
+pub record HandedOver (f : FilePlan) (r : FileAnswer) (before after : Lent) : Type 0 where
+  pub result : r ≡ answerBy (withSpace f (before .output))
+  pub table : after .table ≡ onExit (withSpace f (before .output)) (before .table) (λ f. tableAfter (unnamed f) (before .table))
+  pub spare : after .spare ≡ onExit (withSpace f (before .output)) (before .spare) (λ f. sparesAfter (unnamed f) (before .spare))
+  pub output : after .output ≡ onExit (withSpace f (before .output)) (before .output) (λ f. overFront (printed f) (before .output))
+
+-- numbers, which found alone writes
+unfoldable pub whereFound : Outcome → (new lent : List ℕ) → List ℕ
+whereFound Found new lent = overFront new lent
+whereFound None new lent = lent
+whereFound Stopped new lent = lent

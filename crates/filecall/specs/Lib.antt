@@ -1,9 +1,5 @@
 -- The call with a file: what its parts return, and what is proved about them.
 pub mod Calls
 pub mod HandOver
-pub mod Items
 pub mod Laws
-pub mod Opening
-pub mod Parts
-pub mod PlanRead
 pub mod Printing

@@ -1,4 +1,7 @@
 -- What is proved about the definitions beside this file.
-pub mod Bounds
-pub mod RoundTrip
+pub mod Digits
+pub mod Front
+pub mod Lines
+pub mod Putting
+pub mod Reads
 pub mod Values

@@ -1,14 +1,16 @@
-// Writing a value as a field: in quotes only where it needs them.
+// A value put into an output as a field: in quotes only where it needs them.
 use crate::Wrote;
+use crate::bytes::write_bytes;
 use rfc4180::ByteClass;
 use rfc4180::class_of;
 ghost use mathlib.Core.Path.{_≡_};
-ghost use mathlib.Core.Bool.{true, false};
-ghost use mathlib.Core.List.{_++_};
-ghost use Prim.Native.Nat.{_+_, _≤_};
-ghost use lib.ListN.{length, take, drop};
-ghost use Rattle.lines.specs.Putting.{valueMeasure, wrote, wroteOnExit};
-ghost use Rattle.rfc4180.specs.Writer.{written, needsQuotes, writable};
+ghost use mathlib.Core.Bool.{true};
+ghost use mathlib.Core.List.{List, [], _∷_, _++_};
+ghost use Prim.Native.Nat.{ℕ, _+_, _≤_};
+ghost use lib.ListN.{length};
+ghost use Rattle.rfc4180.specs.Grammar.{Field};
+ghost use Rattle.rfc4180.specs.Writer.{written, needsQuotes};
+ghost use Rattle.lines.specs.Putting.{plain, field as fieldOf, putAt, output, Puts, Writes, valueMeasure};
 
 // A value: whether it can be written, whether it needs quotes, and how many quotes it holds.
 pub(crate) struct ValueMeasure {
@@ -48,29 +50,10 @@ fn measure(value: &[u8]) -> ValueMeasure
     }
 }
 
-// The value as it is.
-fn write_plain(value: &[u8], out: &mut [u8], at: usize)
-    requires { ⌜ at + length (now value) ≤ length (now out) ⌝ }
-    ensures { λ r. ⌜
-        now (out .exit)
-        ≡ take at (now (out .entry)) ++ (now (value .entry) ++ drop (at + length (now (value .entry))) (now (out .entry)))
-        ⌝ }
-{
-    let mut i = 0;
-    while i < value.len() {
-        out[at + i] = value[i];
-        i += 1;
-    }
-}
-
 // The value in quotes, each quote in it doubled.
-fn write_quoted(value: &[u8], out: &mut [u8], at: usize)
+fn store_quoted(value: &[u8], out: &mut [u8], at: usize)
     requires { ⌜ (needsQuotes (now value) ≡ true) × (at + length (written (now value)) ≤ length (now out)) ⌝ }
-    ensures { λ r. ⌜
-        now (out .exit)
-        ≡ take at (now (out .entry))
-        ++ (written (now (value .entry)) ++ drop (at + length (written (now (value .entry)))) (now (out .entry)))
-        ⌝ }
+    ensures { λ r. ⌜ now (out .exit) ≡ putAt at (written (now (value .entry))) (now (out .entry)) ⌝ }
 {
     out[at] = 0x22;
     let mut to = at + 1;
@@ -88,32 +71,40 @@ fn write_quoted(value: &[u8], out: &mut [u8], at: usize)
     out[to] = 0x22;
 }
 
-// Writes a value at a place of an output. A value that holds a byte which RFC 4180 has nowhere, or that does not fit, is refused and
-// the output is kept.
-pub fn write_field(value: &[u8], out: &mut [u8], at: usize) -> Wrote
-    ensures result { λ r. ⌜ r ≡ wrote (now (value .entry)) (length (now (out .entry))) at ⌝ }
-    ensures output { λ r. ⌜ now (out .exit) ≡ wroteOnExit (now (value .entry)) (now (out .entry)) at ⌝ }
+// The field alone.
+fn write_value(value: &[u8], out: &mut [u8], to: Wrote) -> Wrote
+    ensures { λ r. ⌜ Puts (fieldOf (now (value .entry)) ∷ []) (output to (now (out .entry))) (output r (now (out .exit))) ⌝ }
 {
+    let Wrote::Next(at) = to else {
+        return to;
+    };
     let m = measure(value);
     if !m.writable {
         return Wrote::Refused;
     }
+    if !m.quoted {
+        return write_bytes(value, out, to);
+    }
     if out.len() < at {
         return Wrote::TooLong;
     }
-    let space = out.len() - at;
-    if m.quoted {
-        // The bytes before the closing quote: with that one they can be more than a usize holds.
-        let n = value.len() + m.quotes + 1;
-        if space <= n {
-            return Wrote::TooLong;
-        }
-        write_quoted(value, out, at);
-        return Wrote::Next(at + n + 1);
-    }
-    if space < value.len() {
+    // The bytes before the closing quote: with that one they can be more than a usize holds.
+    let n = value.len() + m.quotes + 1;
+    if out.len() - at <= n {
         return Wrote::TooLong;
     }
-    write_plain(value, out, at);
-    Wrote::Next(at + value.len())
+    store_quoted(value, out, at);
+    Wrote::Next(at + n + 1)
+}
+
+// Puts a value as a field, and behind it what ends it: a comma, CR LF, or nothing.
+pub fn write_field<'a>(value: &'a [u8], end: &'a [u8], out: &mut [u8], to: Wrote) -> Wrote
+    ensures { λ r. ⌜
+        Writes (fieldOf (now (value .entry)) ∷ plain (now (end .entry)) ∷ [])
+        (λ stands. (raw : List ℕ) × Field raw (now (value .entry)) × (stands ≡ raw ++ now (end .entry)))
+        (output to (now (out .entry))) (output r (now (out .exit)))
+        ⌝ }
+{
+    let next = write_value(value, out, to);
+    write_bytes(end, out, next)
 }

@@ -2,7 +2,7 @@
 -- Assumes nothing.
 use mathlib.Core.Path.{_≡_}
 use Prim.Native.Nat.{ℕ}
-use mathlib.Core.List.{List, [], _∷_}
+use mathlib.Core.List.{List, [], _∷_, _++_}
 use lib.ListN.{length}
 use Rattle.rfc4180.specs.Grammar.{File}
 use Rattle.rfc4180.specs.Text.{ascii}
@@ -26,25 +26,21 @@ pub data PlanRecord : List (List ℕ) → Mode → (minutes allowance : ℕ) →
       → PlanRecord (ascii "plan" ∷ modeWord mode ∷ m ∷ t ∷ []) mode minutes allowance
 
 -- the other records, each of "exactly four fields": "`engine,NAME,WATTS,FUEL`" and "`delivery,NAME,ENERGY,LIMIT`", "in any mixture", with the engines and the
--- deliveries among them in file order
+-- deliveries among them in file order; each record stands behind those earlier in the file
 pub data Mixture : List (List (List ℕ)) → List NamedEngine → List NamedDelivery → Type 0 where
-  mixture-end : Mixture [] [] []
-  mixture-engine : {name w f : List ℕ} {watts fuel : ℕ} {records : List (List (List ℕ))} {engines : List NamedEngine} {deliveries : List NamedDelivery}
-      → Numeral w watts
-      → Numeral f fuel
+  mixture-none : Mixture [] [] []
+  mixture-engine : {records : List (List (List ℕ))} {engines : List NamedEngine} {deliveries : List NamedDelivery} {w f : List ℕ}
       → Mixture records engines deliveries
-      → Mixture
-      ((ascii "engine" ∷ name ∷ w ∷ f ∷ []) ∷ records)
-      (record { name = name; engine = record { watts = watts; fuel = fuel } } ∷ engines)
-      deliveries
-  mixture-delivery : {name e l : List ℕ} {energy limit : ℕ} {records : List (List (List ℕ))} {engines : List NamedEngine} {deliveries : List NamedDelivery}
-      → Numeral e energy
-      → Numeral l limit
+      → (e : NamedEngine)
+      → Numeral w (e .engine .watts)
+      → Numeral f (e .engine .fuel)
+      → Mixture (records ++ (ascii "engine" ∷ e .name ∷ w ∷ f ∷ []) ∷ []) (engines ++ e ∷ []) deliveries
+  mixture-delivery : {records : List (List (List ℕ))} {engines : List NamedEngine} {deliveries : List NamedDelivery} {e l : List ℕ}
       → Mixture records engines deliveries
-      → Mixture
-      ((ascii "delivery" ∷ name ∷ e ∷ l ∷ []) ∷ records)
-      engines
-      (record { name = name; delivery = record { energy = energy; limit = limit } } ∷ deliveries)
+      → (d : NamedDelivery)
+      → Numeral e (d .delivery .energy)
+      → Numeral l (d .delivery .limit)
+      → Mixture (records ++ (ascii "delivery" ∷ d .name ∷ e ∷ l ∷ []) ∷ []) engines (deliveries ++ d ∷ [])
 
 -- "A name has 1 to 16 bytes, each hex 20 to 7E"
 pub record SoundName (name : List ℕ) : Type 0 where

@@ -1,6 +1,6 @@
 -- The planner's print (document 01, "The planner's print"): the exact bytes for every answer, and for a refusal.
 -- Assumes nothing.
-use Prim.Native.Nat.{ℕ, zero, suc}
+use Prim.Native.Nat.{ℕ, zero, suc, _+_, _*_}
 use mathlib.Core.List.{List, [], _∷_, _++_}
 use lib.ListN.{length}
 use Rattle.rfc4180.specs.Text.{ascii}
@@ -8,6 +8,7 @@ use Rattle.rfc4180.specs.Writer.{writtenFile}
 use Rattle.planning.specs.declared.Outcome.{Outcome}
 use Rattle.planning.specs.declared.Outcome.the-variants.{Found, None, Stopped}
 use Rattle.planning.specs.declared.Refusal.{Refusal}
+use Rattle.planning.specs.Bounds.{mostEngines, mostDeliveries}
 use Rattle.planning.specs.Modes.{Planned, outcomeOf, triesOf}
 use Rattle.planning.specs.Tables.{pieceIn}
 use Rattle.planning.specs.Refusals.{faultNumber}
@@ -62,6 +63,16 @@ unfoldable pub printOf : FilePlan → Planned → List ℕ
 printOf f a = writtenFile (answerLines (a .minutes) (a .result) (linesOf f (a .result)))
 
 -- "`refused,NUMBER,RECORD,0`", which the program prints
+abbrev pub refusalLine : Refusal → Line
+refusalLine refusal = ascii "refused" ∷ decimal (faultNumber (refusal .fault)) ∷ decimal (refusal .place) ∷ ascii "0" ∷ []
+
 unfoldable pub refusalPrint : Refusal → List ℕ
-refusalPrint refusal =
-    writtenFile ((ascii "refused" ∷ decimal (faultNumber (refusal .fault)) ∷ decimal (refusal .place) ∷ ascii "0" ∷ []) ∷ [])
+refusalPrint refusal = writtenFile (refusalLine refusal ∷ [])
+
+-- No print is longer (Laws/PrintLength). A piece's line has its word, two names of at most 34 bytes, ten digits, three commas, CR and LF;
+-- line 1 of found its word, at most 5, 10 and 2 digits, three commas, CR and LF. A plan has at most a piece for each engine and delivery.
+abbrev pub longestPieceLine : ℕ
+longestPieceLine = 88
+
+abbrev pub longestPrint : ℕ
+longestPrint = 27 + (mostEngines + mostDeliveries) * longestPieceLine

@@ -1,5 +1,5 @@
--- What the call with a file promises about cuttings and about the plan that its bytes hold: the clauses of its contract. The reading and
--- its order of checks have no part in demands 1 to 3. `table`, `spare` and `output` are what the lent lists hold on exit.
+-- What the call with a file promises, for every call: the fields of its contract. Demands 1 to 3 are said in terms of cuttings and of the plan
+-- that the bytes hold; the reading and its order of checks have no part in them.
 -- Assumes nothing.
 use mathlib.Core.Path.{_≡_}
 use mathlib.Core.Logic.{_≢_, _↔_}
@@ -9,7 +9,8 @@ use lib.ListN.{length, take, drop, getD}
 use Rattle.rfc4180.specs.Grammar.{File}
 use Rattle.rfc4180.specs.Records.{records}
 use Rattle.planning.specs.declared.Answer.{Answer}
-use Rattle.planning.specs.declared.Fault.the-variants.{Space}
+use Rattle.planning.specs.declared.Fault.{Fault}
+use Rattle.planning.specs.declared.Fault.the-variants.{Size, Grammar, Fields, Kind, Name, Value, Count, NoEngine, Space}
 use Rattle.planning.specs.declared.Mode.the-variants.{Fixed, Shortest}
 use Rattle.planning.specs.declared.Outcome.the-variants.{Found, None, Stopped}
 use Rattle.planning.specs.declared.Refusal.{Refusal}
@@ -19,16 +20,15 @@ use Rattle.planning.specs.Cutting.{NotServed, Serves, ShortestTime}
 use Rattle.planning.specs.Modes.{triesOf, unlimitedAt}
 use Rattle.planning.specs.Tables.{pieceIn, at, cell}
 use Rattle.planning.specs.Plan.{Within}
-use Rattle.planning.specs.Refusals.{faultNumber}
 use Rattle.planning.specs.Search.{found}
 use Rattle.planning.specs.Sum.{sum, positives}
 use Rattle.planfile.specs.declared.FileAnswer.{FileAnswer}
 use Rattle.planfile.specs.declared.FileAnswer.the-variants.{Printed, Refused}
-use Rattle.planfile.specs.FileCall.{FileCall, printed, programPrint}
+use Rattle.planfile.specs.FileCall.{FileCall, printed, answerToFile, fileTable, fileSpare, fileOutput, printLengthBy, printOutputBy, programPrint}
 use Rattle.planfile.specs.FilePlan.{FilePlan, unnamed, engineNames, deliveryNames, nameAt}
 use Rattle.planfile.specs.Holding.{Holds}
 use Rattle.planfile.specs.Numerals.{Numeral, decimal}
-use Rattle.planfile.specs.Print.{Line, wordOf, linesOf, refusalPrint, lineOf}
+use Rattle.planfile.specs.Print.{Line, wordOf, linesOf, refusalLine, refusalPrint, lineOf, longestPrint}
 
 -- "a piece table of deliveries × engines (a row for each delivery ..)": how many numbers of the lent table are the plan's
 abbrev pub planCells : FilePlan → ℕ
@@ -42,7 +42,7 @@ pieceOf f table p i = pieceIn (length (f .engines)) table p i
 abbrev pub namedLine : FilePlan → (p i : ℕ) → (text : List ℕ) → Line
 namedLine f p i text = lineOf (nameAt (deliveryNames f) p) (nameAt (engineNames f) i) text
 
--- ---- Demand 1
+-- ---- a call that is accepted, and where a refusal may be
 
 -- The bytes hold a plan; "A call with a file is lent exactly 768 and 12 numbers"; and the plan's output is not "longer than the lent
 -- space".
@@ -53,55 +53,19 @@ pub record FileAccepted (call : FileCall) : Type 0 where
   pub spare : length (call .spare) ≡ mostEngines
   pub output : length (printed plan) ≤ length (call .output)
 
--- Such a call, and no other, is answered: "An answer is one of found, none and stopped, carried with its minutes and tries."
-unfoldable pub AnsweredExactly : FileCall → FileAnswer → Type 0
-AnsweredExactly call r = ((a : Answer) × (n : ℕ) × (r ≡ Printed a n)) ↔ FileAccepted call
+-- "Each refusal returns its number and the record counted from 1 (0 for 1, 8 and 9)": the places of a fault in a file of so many records
+unfoldable pub FaultInFile : (records : ℕ) → Fault → (place : ℕ) → Type 0
+FaultInFile records Size place = place ≡ 0
+FaultInFile records Grammar place = Within 1 records place
+FaultInFile records Fields place = Within 1 records place
+FaultInFile records Kind place = Within 1 records place
+FaultInFile records Name place = Within 1 records place
+FaultInFile records Value place = Within 1 records place
+FaultInFile records Count place = Within 1 records place
+FaultInFile records NoEngine place = place ≡ 0
+FaultInFile records Space place = place ≡ 0
 
--- "Each refusal returns its number and the record counted from 1 (0 for 1, 8 and 9)", in a file of so many records
-pub record Numbered (count number place : ℕ) : Type 0 where
-  pub listed : Within 1 9 number
-  pub counted : Within 2 7 number → Within 1 count place
-  pub nowhere : (Within 2 7 number → ⊥) → place ≡ 0
-
--- Any other call is refused: by a number from 1 to 8 exactly where the bytes hold no plan, so by 9 where they hold one. (Which of 1 to 8,
--- and which record, the clause on the result says.)
-unfoldable pub RefusedByFile : FileCall → FileAnswer → Type 0
-RefusedByFile call r =
-    (refusal : Refusal) → r ≡ Refused refusal
-    → Numbered (length (records (call .file))) (faultNumber (refusal .fault)) (refusal .place)
-    × ((faultNumber (refusal .fault) ≤ 8) ↔ ((f : FilePlan) → Holds (call .file) f → ⊥))
-
--- Each refusal "changes nothing lent".
-unfoldable pub TurnedDown : FileCall → FileAnswer → (table spare output : List ℕ) → Type 0
-TurnedDown call r table spare output =
-    (refusal : Refusal) → r ≡ Refused refusal → (table ≡ call .table) × (spare ≡ call .spare) × (output ≡ call .output)
-
--- ---- Demand 2
-
--- "Found writes the piece table .. and each engine's spare: capacity less its pieces." The table is a cutting in whole watt-hours that
--- serves the plan in the answered minutes: each delivery's pieces add up to its energy, each engine's to at most its capacity, and at most
--- LIMIT of a delivery's pieces are above 0. The call "fills from the front what its plan has, and keeps the others".
-unfoldable pub FoundServes : FileCall → FileAnswer → (table spare : List ℕ) → Type 0
-FoundServes call r table spare =
-    (a : Answer) (n : ℕ) (f : FilePlan) → r ≡ Printed a n → Holds (call .file) f → a .outcome ≡ Found
-    → Serves 1 (unnamed f) (a .minutes) (pieceOf f table)
-    × ((i : ℕ) → i < length (f .engines)
-    → at spare i + sum (length (f .deliveries)) (λ p. pieceOf f table p i) ≡ at (capacities (unnamed f) (a .minutes)) i)
-    × (drop (planCells f) table ≡ drop (planCells f) (call .table))
-    × (drop (length (f .engines)) spare ≡ drop (length (f .engines)) (call .spare))
-
--- "None and stopped leave both untouched."
-unfoldable pub KeptUnlessFound : FileCall → FileAnswer → (table spare : List ℕ) → Type 0
-KeptUnlessFound call r table spare =
-    (a : Answer) (n : ℕ) → r ≡ Printed a n → a .outcome ≢ Found → (table ≡ call .table) × (spare ≡ call .spare)
-
--- "where one more would exceed the allowance, the answer is stopped, its tries equal to the allowance": the search at the answered
--- minutes needs more tries than were allowed.
-unfoldable pub StoppedExactly : FileCall → FileAnswer → Type 0
-StoppedExactly call r =
-    (a : Answer) (n : ℕ) (f : FilePlan) → r ≡ Printed a n → Holds (call .file) f
-    → ((a .outcome ≡ Stopped) ↔ (f .allowance < triesOf (unlimitedAt (unnamed f) (a .minutes))))
-    × (a .outcome ≡ Stopped → a .tries ≡ f .allowance)
+-- ---- a print read back
 
 -- The print of an answer, read by the definition of RFC 4180.
 pub record PrintLines (print : List ℕ) (f : FilePlan) (a : Answer) (table : List ℕ) : Type 0 where
@@ -114,12 +78,6 @@ pub record PrintLines (print : List ℕ) (f : FilePlan) (a : Answer) (table : Li
   -- "Others print one line"
   pub otherwise : a .outcome ≢ Found → pieces ≡ []
 
--- "The print stands at the front of the lent output; bytes behind it are kept."
-unfoldable pub PrintReads : FileCall → FileAnswer → (table output : List ℕ) → Type 0
-PrintReads call r table output =
-    (a : Answer) (n : ℕ) (f : FilePlan) → r ≡ Printed a n → Holds (call .file) f
-    → (n ≤ length (call .output)) × (drop n output ≡ drop n (call .output)) × PrintLines (take n output) f a table
-
 -- Lines that give exactly the table's pieces above 0, behind a line 1.
 pub record PiecesRead (lines : List Line) (f : FilePlan) (table : List ℕ) : Type 0 where
   -- a line for each of them
@@ -131,28 +89,65 @@ pub record PiecesRead (lines : List Line) (f : FilePlan) (table : List ℕ) : Ty
   pub inOrder : (p i : ℕ) → p < length (f .deliveries) → i < length (f .engines) → 0 < pieceOf f table p i
       → getD lines (suc (positives (cell (length (f .engines)) p i) (at table))) [] ≡ namedLine f p i (decimal (pieceOf f table p i))
 
--- Whatever a found print is read as, by the definition of RFC 4180, is those lines.
-unfoldable pub ReadsBack : FileCall → FileAnswer → (table output : List ℕ) → Type 0
-ReadsBack call r table output =
-    (a : Answer) (n : ℕ) (f : FilePlan) → r ≡ Printed a n → Holds (call .file) f → a .outcome ≡ Found
-    → (lines : List Line) → File (take n output) lines → PiecesRead lines f table
+-- ---- the contract
 
--- ---- Demand 3
+-- `table′`, `spare′` and `output′` are what the lent lists hold on exit
+pub record FilePromised (call : FileCall) (r : FileAnswer) (table′ spare′ output′ : List ℕ) : Type 0 where
+  -- what is returned, and what the lent lists hold, are what the definitions say
+  pub result : r ≡ answerToFile call
+  pub table : table′ ≡ fileTable call
+  pub spare : spare′ ≡ fileSpare call
+  pub output : output′ ≡ fileOutput call
+  -- Demand 1. A call that is accepted, and no other, is answered: "An answer is one of found, none and stopped, carried with its minutes and
+  -- tries."
+  pub answeredExactly : ((a : Answer) × (n : ℕ) × (r ≡ Printed a n)) ↔ FileAccepted call
+  -- Any other call is refused: for want of space exactly where the bytes hold a plan, else for a fault of the file. (Which fault, and which
+  -- record, the field `result` says.)
+  pub refusedByFile : (refusal : Refusal) → r ≡ Refused refusal
+      → FaultInFile (length (records (call .file))) (refusal .fault) (refusal .place)
+      × ((refusal .fault ≡ Space) ↔ ((f : FilePlan) × Holds (call .file) f))
+  -- Each refusal "changes nothing lent".
+  pub turnedDown : (refusal : Refusal) → r ≡ Refused refusal → (table′ ≡ call .table) × (spare′ ≡ call .spare) × (output′ ≡ call .output)
+  -- Demand 2. "Found writes the piece table .. and each engine's spare: capacity less its pieces." The table is a cutting in whole watt-hours
+  -- that serves the plan in the answered minutes: each delivery's pieces add up to its energy, each engine's to at most its capacity, and at
+  -- most LIMIT of a delivery's pieces are above 0. The call "fills from the front what its plan has, and keeps the others".
+  pub foundServes : (a : Answer) (n : ℕ) (f : FilePlan) → r ≡ Printed a n → Holds (call .file) f → a .outcome ≡ Found
+      → Serves 1 (unnamed f) (a .minutes) (pieceOf f table′)
+      × ((i : ℕ) → i < length (f .engines)
+      → at spare′ i + sum (length (f .deliveries)) (λ p. pieceOf f table′ p i) ≡ at (capacities (unnamed f) (a .minutes)) i)
+      × (drop (planCells f) table′ ≡ drop (planCells f) (call .table))
+      × (drop (length (f .engines)) spare′ ≡ drop (length (f .engines)) (call .spare))
+  -- "None and stopped leave both untouched."
+  pub keptUnlessFound : (a : Answer) (n : ℕ) → r ≡ Printed a n → a .outcome ≢ Found → (table′ ≡ call .table) × (spare′ ≡ call .spare)
+  -- "where one more would exceed the allowance, the answer is stopped, its tries equal to the allowance": the search at the answered
+  -- minutes needs more tries than were allowed.
+  pub stoppedExactly : (a : Answer) (n : ℕ) (f : FilePlan) → r ≡ Printed a n → Holds (call .file) f
+      → ((a .outcome ≡ Stopped) ↔ (f .allowance < triesOf (unlimitedAt (unnamed f) (a .minutes))))
+      × (a .outcome ≡ Stopped → a .tries ≡ f .allowance)
+  -- "The print stands at the front of the lent output; bytes behind it are kept."
+  pub printReads : (a : Answer) (n : ℕ) (f : FilePlan) → r ≡ Printed a n → Holds (call .file) f
+      → (n ≤ length (call .output)) × (drop n output′ ≡ drop n (call .output)) × PrintLines (take n output′) f a table′
+  -- Whatever a found print is read as, by the definition of RFC 4180, is the table's pieces.
+  pub readsBack : (a : Answer) (n : ℕ) (f : FilePlan) → r ≡ Printed a n → Holds (call .file) f → a .outcome ≡ Found
+      → (lines : List Line) → File (take n output′) lines → PiecesRead lines f table′
+  -- Demand 3. Unless the answer is stopped, it is none exactly when, for every n from 1, no cutting in n parts serves the plan in its
+  -- MINUTES: "The minutes a plan gives are its MINUTES, in both modes".
+  pub noneExactly : (a : Answer) (n : ℕ) (f : FilePlan) → r ≡ Printed a n → Holds (call .file) f → a .outcome ≢ Stopped
+      → (a .outcome ≡ None) ↔ NotServed (unnamed f) (f .minutes)
+  -- "a shortest time is the minutes carried with found under `shortest`": a cutting serves the plan in that time, and none in any smaller
+  -- whole minute down to one. A fixed time that is answered found is the plan's MINUTES.
+  pub shortestExactly : (a : Answer) (n : ℕ) (f : FilePlan) → r ≡ Printed a n → Holds (call .file) f → a .outcome ≡ Found
+      → (f .mode ≡ Shortest → ShortestTime (unnamed f) (a .minutes))
+      × (f .mode ≡ Fixed → a .minutes ≡ f .minutes)
 
--- Unless the answer is stopped, it is none exactly when, for every n from 1, no cutting in n parts serves the plan in its MINUTES:
--- "The minutes a plan gives are its MINUTES, in both modes".
-unfoldable pub NoneExactly : FileCall → FileAnswer → Type 0
-NoneExactly call r =
-    (a : Answer) (n : ℕ) (f : FilePlan) → r ≡ Printed a n → Holds (call .file) f → a .outcome ≢ Stopped
-    → (a .outcome ≡ None) ↔ NotServed (unnamed f) (f .minutes)
+-- ---- a refusal's line
 
--- "a shortest time is the minutes carried with found under `shortest`": a cutting serves the plan in that time, and none in any smaller
--- whole minute down to one. A fixed time that is answered found is the plan's MINUTES.
-unfoldable pub ShortestExactly : FileCall → FileAnswer → Type 0
-ShortestExactly call r =
-    (a : Answer) (n : ℕ) (f : FilePlan) → r ≡ Printed a n → Holds (call .file) f → a .outcome ≡ Found
-    → (f .mode ≡ Shortest → ShortestTime (unnamed f) (a .minutes))
-    × (f .mode ≡ Fixed → a .minutes ≡ f .minutes)
+-- The line stands at the front of the lent output where there is space for it, and its length is returned; else nothing is written, and
+-- 0 is returned. Read by the definition of RFC 4180, it is "`refused,NUMBER,RECORD,0`".
+pub record RefusalWritten (refusal : Refusal) (lent : List ℕ) (n : ℕ) (output′ : List ℕ) : Type 0 where
+  pub result : n ≡ printLengthBy (Refused refusal) (length lent)
+  pub output : output′ ≡ printOutputBy (Refused refusal) lent
+  pub reads : 0 < n → File (take n output′) (refusalLine refusal ∷ [])
 
 -- ---- The program `planner`
 
@@ -161,7 +156,7 @@ pub record ProgramPrints (input print : List ℕ) : Type 0 where
   pub whole : print ≡ programPrint input
   pub neverSpace : (refusal : Refusal) → refusal .fault ≡ Space → print ≡ refusalPrint refusal → ⊥
 
--- So it is where tables of the lengths asked for are lent and 6,715 bytes of output, which hold every print.
+-- So it is where tables of the lengths asked for are lent and an output that holds every print.
 unfoldable pub PrintsAsProgram : FileCall → (n : ℕ) → (output : List ℕ) → Type 0
 PrintsAsProgram call n output =
-    length (call .table) ≡ mostCells → length (call .spare) ≡ mostEngines → 6715 ≤ length (call .output) → ProgramPrints (call .file) (take n output)
+    length (call .table) ≡ mostCells → length (call .spare) ≡ mostEngines → longestPrint ≤ length (call .output) → ProgramPrints (call .file) (take n output)

@@ -2,9 +2,9 @@
 -- "Order: 1; then records from the front, the first faulty one deciding; within a record 2, 3, 4, 7, then its fields from the left
 -- (5 or 6); after the last record 8."
 -- Assumes nothing.
-use Prim.Native.Nat.{ℕ, _+_}
-use mathlib.Core.Bool.{Bool, true, false, not, _&&_}
-use mathlib.Core.List.{List, [], _∷_, map}
+use Prim.Native.Nat.{ℕ, suc, _+_}
+use mathlib.Core.Bool.{Bool, true, false, cond, not, _&&_}
+use mathlib.Core.List.{List, [], _∷_}
 use mathlib.Core.Option.{Option, none, some}
 use lib.ListN.{length}
 use lib.Dec.{leb, ltb, eqb}
@@ -19,7 +19,7 @@ use Rattle.planning.specs.declared.Refusal.{Refusal}
 use Rattle.planning.specs.Bounds.{mostEngines, mostDeliveries, mostMinutes, mostTries, mostWatts, mostFuel, mostEnergy, mostLimit}
 use Rattle.planning.specs.Numbers.{within}
 use Rattle.planfile.specs.Bounds.{mostBytes, mostNameBytes, leastNameByte, mostNameByte}
-use Rattle.planfile.specs.FilePlan.{FilePlan, NamedEngine, NamedDelivery, engineOf, deliveryOf, begun, withEngine, withDelivery}
+use Rattle.planfile.specs.FilePlan.{FilePlan, engineNames, deliveryNames, engineOf, deliveryOf, begun, withEngine, withDelivery}
 use Rattle.planfile.specs.Numerals.{numberOf}
 
 -- what reading comes to: a value, or a refusal
@@ -104,6 +104,11 @@ unfoldable pub unused : (name : List ℕ) → (names : List (List ℕ)) → Bool
 unused name [] = true
 unused name (other ∷ names) = not (same name other) && unused name names
 
+-- the place of a name among names: of the first that is it, or how many there are where none is
+unfoldable pub placeOf : (name : List ℕ) → (names : List (List ℕ)) → ℕ
+placeOf name [] = 0
+placeOf name (other ∷ names) = cond (same name other) 0 (suc (placeOf name names))
+
 -- record 1: 4 where it is no plan, then its fields from the left
 unfoldable pub readPlan : FourFields → Read FilePlan
 readPlan x = do
@@ -113,27 +118,31 @@ readPlan x = do
   allowance ← readNumber 0 mostTries 1 (x .fourth)
   accepted (begun mode minutes allowance)
 
--- an item of a name and two numbers behind the items so far: 7 where there are the most of them, then its fields from the left
-unfoldable pub readItem : {A : Type 0} → (name : A → List ℕ) → (most low high low′ high′ : ℕ) → (items : List A) → (r : ℕ) → FourFields
-    → (after : ℕ → ℕ → FilePlan) → Read FilePlan
-readItem name most low high low′ high′ items r x after = do
-  _ ← require (ltb (length items) most) Count r
-  _ ← require (soundName (x .second) && unused (x .second) (map name items)) Name r
+-- the two numbers of an engine or of a delivery
+pub record Figures : Type 0 where
+  pub first : ℕ
+  pub second : ℕ
+
+-- an item of a name and two numbers, behind items of these names: 7 where there are the most of them, then its fields from the left
+unfoldable pub readItem : (most low high low′ high′ : ℕ) → (names : List (List ℕ)) → (r : ℕ) → FourFields → Read Figures
+readItem most low high low′ high′ names r x = do
+  _ ← require (ltb (length names) most) Count r
+  _ ← require (soundName (x .second) && unused (x .second) names) Name r
   n ← readNumber low high r (x .third)
   m ← readNumber low′ high′ r (x .fourth)
-  accepted (after n m)
+  accepted (record { first = n; second = m })
 
 -- an engine, and 7 for "a 13th engine"
 unfoldable pub readEngine : FilePlan → (r : ℕ) → FourFields → Read FilePlan
-readEngine f r x =
-    readItem (λ (e : NamedEngine). e .name) mostEngines 0 mostWatts 0 mostFuel (f .engines) r x
-    (λ watts fuel. withEngine f (engineOf (x .second) watts fuel))
+readEngine f r x = do
+  v ← readItem mostEngines 0 mostWatts 0 mostFuel (engineNames f) r x
+  accepted (withEngine f (engineOf (x .second) (v .first) (v .second)))
 
 -- a delivery, and 7 for a "65th delivery"
 unfoldable pub readDelivery : FilePlan → (r : ℕ) → FourFields → Read FilePlan
-readDelivery f r x =
-    readItem (λ (d : NamedDelivery). d .name) mostDeliveries 1 mostEnergy 1 mostLimit (f .deliveries) r x
-    (λ energy limit. withDelivery f (deliveryOf (x .second) energy limit))
+readDelivery f r x = do
+  v ← readItem mostDeliveries 1 mostEnergy 1 mostLimit (deliveryNames f) r x
+  accepted (withDelivery f (deliveryOf (x .second) (v .first) (v .second)))
 
 -- a record after record 1, by its first field: 4 for "first field unknown" and for "a plan later"
 unfoldable pub recordBy : (engine delivery : Bool) → FilePlan → (r : ℕ) → FourFields → Read FilePlan

@@ -2,9 +2,13 @@
 use libc::STDIN_FILENO;
 use libc::STDOUT_FILENO;
 use planfile::FileAnswer;
+use planfile::LONGEST_PRINT;
+use planfile::MOST_BYTES;
+use planning::MOST_ENGINES;
 ghost use mathlib.Core.Path.{_≡_};
 ghost use Prim.Native.Nat.{_≤_};
 ghost use lib.ListN.{length, take};
+ghost use Rattle.planfile.specs.Print.{longestPrint};
 ghost use Rattle.planfile.specs.Promises.{ProgramPrints};
 ghost use Rattle.planner.specs.Input.{WithinBuffer};
 
@@ -44,12 +48,13 @@ fn read_input(buffer: &mut [u8]) -> Input
 // Plans a file, prints the answer or the refusal into the output, and answers the length of the print. With these tables and this much
 // output it is document 01's print of the file, and never `refused,9`.
 fn print_of(file: &[u8], output: &mut [u8]) -> usize
-    requires { ⌜ length (now output) ≡ 6715 ⌝ }
+    requires { ⌜ length (now output) ≡ longestPrint ⌝ }
     ensures print { λ r. ⌜ ProgramPrints (now (file .entry)) (take r (now (output .exit))) ⌝ }
     ensures within { λ r. ⌜ r ≤ length (now (output .exit)) ⌝ }
 {
+    // MOST_CELLS, written out as document 01 has it
     let mut table = [0u64; 768];
-    let mut spare = [0u64; 12];
+    let mut spare = [0u64; MOST_ENGINES];
     let answer = filecall::plan_file(file, &mut table, &mut spare, &mut *output);
     match answer {
         FileAnswer::Printed(_, n) => n,
@@ -59,7 +64,7 @@ fn print_of(file: &[u8], output: &mut [u8]) -> usize
 
 // Plans a file and prints.
 fn plan(file: &[u8]) {
-    let mut output = [0u8; 6715];
+    let mut output = [0u8; LONGEST_PRINT];
     let n = print_of(file, &mut output);
     if !io::write_all(STDOUT_FILENO, &output[..n]) {
         os::fail(b"planner: write");
@@ -68,7 +73,7 @@ fn plan(file: &[u8]) {
 
 fn main() {
     // one byte more than a file may have, which is enough to refuse it by 1
-    let mut file = [0u8; 32769];
+    let mut file = [0u8; MOST_BYTES + 1];
     let input = read_input(&mut file);
     match input {
         Input::Bytes(n) => plan(&file[..n]),

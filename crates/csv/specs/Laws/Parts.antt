@@ -1,36 +1,32 @@
--- The forms of raw fields and their values: a field that holds no doubled quote has a part of it for its value, and only what is no
--- field has no value. Assumes nothing.
+-- What stands inside a raw field, and its value where it is a field of the grammar. Assumes nothing.
 use mathlib.Core.Path.{_≡_, refl, sym, ap, _∙_}
-use Prim.Native.Nat.{ℕ, suc, _-_, _≤_}
-use mathlib.Core.Bool.{Bool, true, false, cond, _&&_, true≢false, false≢true}
-use mathlib.Core.Option.{Option, none, some}
+use Prim.Native.Nat.{ℕ, suc, _+_, _-_}
+use mathlib.Core.Logic.{_↔_}
+use mathlib.Core.Bool.{Bool, true, false, cond, _&&_, or-true, false≢true}
+use mathlib.Core.Option.{some}
 use mathlib.Core.List.{List, [], _∷_, _++_}
 use native.Mathlib.Omega.{arith}
-use lib.Dec.{leb}
-use lib.ListN.{length, take, getD}
-use borrow.Author.Tests.{ne-eqb}
-use Rattle.csv.specs.declared.FieldForm.the-variants.{Broken, Part, Doubled}
+use lib.Dec.{leb, eqb}
+use lib.ListN.{length, take, length-append}
+use lib.Seq.{take-at}
+use borrow.Author.Tests.{le-leb}
 use Rattle.rfc4180.specs.Bytes.{quote, comma, carriageReturn, lineFeed}
-use Rattle.rfc4180.specs.Grammar.{NonEscaped, non-escaped-end, non-escaped-text, Escaped, escaped-end, escaped-text, escaped-comma, escaped-cr, escaped-lf, escaped-quote, Field, field-escaped, field-non-escaped}
-use Rattle.rfc4180.specs.Fields.{allText, fieldValue}
-use Rattle.csv.specs.Measures.{measuredBy, measured}
-use Rattle.csv.specs.Spans.{insideOf, holdsQuote, formBy, formOf}
+use Rattle.rfc4180.specs.Grammar.{NonEscaped, non-escaped-end, non-escaped-text, Field, field-escaped, field-non-escaped}
+use Rattle.rfc4180.specs.Grammar.{Escaped, escaped-end, escaped-text, escaped-comma, escaped-cr, escaped-lf, escaped-quote}
 use Rattle.rfc4180.specs.Laws.Classes.{text-no-quote}
-use Rattle.rfc4180.specs.Laws.Fields.{text-only, field-complete, field-sound}
-use Rattle.csv.specs.Laws.Measures.{front, inside-front}
+use Rattle.rfc4180.specs.Laws.Fields.{field-complete}
+use Rattle.csv.specs.Promises.{DoubledQuote}
+use Rattle.csv.specs.Spans.{insideOf, holdsQuote, doubledIn}
+use Rattle.csv.specs.Undoubling.{undoubled}
+use Rattle.csv.specs.Laws.Undoubling.{escaped-undoubled, text-no-quotes, plain-undoubled, holds-undoubled}
 
--- ---- fields without a doubled quote
-
-front-last : (bytes : List ℕ) (b : ℕ) → front (bytes ++ b ∷ []) ≡ bytes
-front-last [] b = refl
-front-last (c ∷ []) b = refl
-front-last (c ∷ d ∷ bytes) b = ap (λ (l : List ℕ). c ∷ l) (front-last (d ∷ bytes) b)
-
--- what stands inside a field: the bytes between the quotes, or all of a text
+-- inside a field stand the bytes between its quotes, or all of a text
 pub inside-escaped : (inside : List ℕ) → insideOf (quote ∷ inside ++ quote ∷ []) ≡ inside
 unfolding insideOf
-inside-escaped [] = refl
-inside-escaped (b ∷ inside) = inside-front b (inside ++ quote ∷ []) ∙ front-last (b ∷ inside) quote
+inside-escaped inside =
+    let n : length (inside ++ quote ∷ []) ≡ length inside + 1 = length-append inside (quote ∷ []) in
+    let m : suc (length (inside ++ quote ∷ [])) - 2 ≡ length inside = omega arith in
+    rw (le-leb 2 (suc (length (inside ++ quote ∷ []))) (omega arith), m) (take-at inside (quote ∷ []) (length inside) refl)
 
 pub inside-text : {text : List ℕ} → NonEscaped text → insideOf text ≡ text
 unfolding insideOf
@@ -41,114 +37,52 @@ inside-text (non-escaped-text {b = b} {text = rest} t r) = rw (text-no-quote t) 
     go true = refl
     go false = refl
 
-text-no-quotes : {text : List ℕ} → NonEscaped text → holdsQuote text ≡ false
+-- with each doubled quote once they are the value
+pub field-undoubled : {raw value : List ℕ} → Field raw value → undoubled (insideOf raw) ≡ value
+field-undoubled (field-escaped {inside = inside} r) = rw (inside-escaped inside) (escaped-undoubled r)
+field-undoubled (field-non-escaped {text = text} r) = rw (inside-text r) (plain-undoubled text (text-no-quotes r))
+
+-- a quote stands inside a field exactly where its value has one
+quote-inside : {raw value : List ℕ} → Field raw value → holdsQuote (insideOf raw) ≡ holdsQuote value
+quote-inside {raw} {value} r = sym (holds-undoubled (insideOf raw)) ∙ ap holdsQuote (field-undoubled r)
+
+-- ---- a doubled quote stands inside a field exactly where its value has a quote
+
+-- two quotes one behind the other
+abbrev Pair : List ℕ → Type 0
+Pair inside = (front : List ℕ) × (back : List ℕ) × (inside ≡ front ++ quote ∷ quote ∷ back)
+
+behind : (b : ℕ) {inside : List ℕ} → Pair inside → Pair (b ∷ inside)
+behind b (front, back, e) = (b ∷ front, back, ap (λ (l : List ℕ). b ∷ l) e)
+
+escaped-pair : {inside value : List ℕ} → Escaped inside value → holdsQuote value ≡ true → Pair inside
 unfolding holdsQuote
-text-no-quotes non-escaped-end = refl
-text-no-quotes (non-escaped-text t r) = rw (text-no-quote t) (text-no-quotes r)
+escaped-pair escaped-end e = absurd (false≢true e)
+escaped-pair (escaped-text {b = b} t r) e = behind b (escaped-pair r (rw (text-no-quote t) at e))
+escaped-pair (escaped-comma r) e = behind comma (escaped-pair r e)
+escaped-pair (escaped-cr r) e = behind carriageReturn (escaped-pair r e)
+escaped-pair (escaped-lf r) e = behind lineFeed (escaped-pair r e)
+escaped-pair (escaped-quote {inside = inside} r) e = ([], inside, refl)
 
-escaped-same : {inside value : List ℕ} → Escaped inside value → holdsQuote inside ≡ false → value ≡ inside
+holds-behind : (front back : List ℕ) → holdsQuote (front ++ quote ∷ back) ≡ true
 unfolding holdsQuote
-escaped-same escaped-end e = refl
-escaped-same (escaped-text {b = b} t r) e = ap (λ (l : List ℕ). b ∷ l) (escaped-same r (rw (text-no-quote t) at e))
-escaped-same (escaped-comma r) e = ap (λ (l : List ℕ). comma ∷ l) (escaped-same r e)
-escaped-same (escaped-cr r) e = ap (λ (l : List ℕ). carriageReturn ∷ l) (escaped-same r e)
-escaped-same (escaped-lf r) e = ap (λ (l : List ℕ). lineFeed ∷ l) (escaped-same r e)
-escaped-same (escaped-quote r) e = absurd (true≢false e)
+holds-behind [] back = refl
+holds-behind (b ∷ front) back = rw (holds-behind front back) (or-true (eqb b quote))
 
-field-part : {raw value : List ℕ} → Field raw value → holdsQuote (insideOf raw) ≡ false → value ≡ insideOf raw
-field-part (field-escaped {inside = inside} r) e =
-    escaped-same r (rw (inside-escaped inside) at e) ∙ sym (inside-escaped inside)
-field-part (field-non-escaped r) e = sym (inside-text r)
+field-pair : {raw value : List ℕ} → Field raw value → holdsQuote value ≡ true → DoubledQuote raw
+field-pair (field-escaped {inside = inside} r) e = rw (inside-escaped inside) (escaped-pair r e)
+field-pair (field-non-escaped r) e = absurd (false≢true (sym (text-no-quotes r) ∙ e))
 
-part-by : (raw : List ℕ) (value : Option (List ℕ)) (quoteInside : Bool) → fieldValue raw ≡ value → holdsQuote (insideOf raw) ≡ quoteInside
-    → formBy value quoteInside ≡ Part → value ≡ some (insideOf raw)
-unfolding formBy
-part-by raw none quoteInside p q e = let z : _≡_ {A = ℕ} 0 1 = cc in absurd (omega arith)
-part-by raw (some value) true p q e = let z : _≡_ {A = ℕ} 0 1 = cc in absurd (omega arith)
-part-by raw (some value) false p q e = ap some (field-part (field-sound raw value p) q)
+pub doubled-quote : {raw value : List ℕ} → Field raw value → (holdsQuote value ≡ true) ↔ DoubledQuote raw
+doubled-quote r = (field-pair r, λ (front, back, e). sym (quote-inside r) ∙ rw e (holds-behind front (quote ∷ back)))
 
--- the value of a field that holds no doubled quote is that part of it
-pub part-value : (raw : List ℕ) → formOf raw ≡ Part → fieldValue raw ≡ some (insideOf raw)
-unfolding formOf
-part-value raw e = part-by raw (fieldValue raw) (holdsQuote (insideOf raw)) refl refl e
+-- ---- the value of a field without one, and what is told of a field
 
-doubled-by : (value : Option (List ℕ)) (quoteInside : Bool) → formBy value quoteInside ≡ Doubled → (v : List ℕ) × (value ≡ some v)
-unfolding formBy
-doubled-by none quoteInside e = let z : _≡_ {A = ℕ} 0 1 = cc in absurd (omega arith)
-doubled-by (some value) quoteInside e = (value, refl)
+-- without a doubled quote they are the value as they stand
+pub field-part : {raw value : List ℕ} → Field raw value → holdsQuote value ≡ false → insideOf raw ≡ value
+field-part {raw} {value} r e = sym (plain-undoubled (insideOf raw) (quote-inside r ∙ e)) ∙ field-undoubled r
 
--- a field with doubled quotes has a value
-pub doubled-value : (raw : List ℕ) → formOf raw ≡ Doubled → (value : List ℕ) × (fieldValue raw ≡ some value)
-unfolding formOf
-doubled-value raw e = doubled-by (fieldValue raw) (holdsQuote (insideOf raw)) e
-
-broken-by : (value : Option (List ℕ)) (quoteInside : Bool) → formBy value quoteInside ≡ Broken → value ≡ none
-unfolding formBy
-broken-by none quoteInside e = refl
-broken-by (some value) true e = let z : _≡_ {A = ℕ} 0 1 = cc in absurd (omega arith)
-broken-by (some value) false e = let z : _≡_ {A = ℕ} 0 1 = cc in absurd (omega arith)
-
--- what is no field has no value, and nothing else has none
-pub broken-none : (raw : List ℕ) → formOf raw ≡ Broken → fieldValue raw ≡ none
-unfolding formOf
-broken-none raw e = broken-by (fieldValue raw) (holdsQuote (insideOf raw)) e
-
-pub none-broken : (raw : List ℕ) → fieldValue raw ≡ none → formOf raw ≡ Broken
-unfolding formOf formBy
-none-broken raw e = rw e
-
--- ---- the measure
-
-form-by : (raw : List ℕ) (value : Option (List ℕ)) (quoteInside : Bool) → holdsQuote (insideOf raw) ≡ quoteInside
-    → formBy value quoteInside ≡ cond (measuredBy value raw .sound) (cond (measuredBy value raw .doubled) Doubled Part) Broken
-unfolding formBy measuredBy
-form-by raw none quoteInside q = refl
-form-by raw (some value) true q = rw q
-form-by raw (some value) false q = rw q
-
--- the measure says which form a raw field has
-pub form-measured : (raw : List ℕ) → formOf raw ≡ cond (measured raw .sound) (cond (measured raw .doubled) Doubled Part) Broken
-unfolding formOf measured
-form-measured raw = form-by raw (fieldValue raw) (holdsQuote (insideOf raw)) refl
-
--- text is a field that is its own value
-pub text-measured : (raw : List ℕ) → allText raw ≡ true → measured raw ≡ record { sound = true; doubled = false; «length» = length raw }
-unfolding measured measuredBy
-text-measured raw e =
-    let text = text-only raw e in
-    rw (field-complete (field-non-escaped text), inside-text text, text-no-quotes text)
-
--- neither text nor in quotes
-pub plain-none : (raw : List ℕ) → (1 ≤ length raw → getD raw 0 0 ≡ quote → ⊥) → allText raw ≡ false → fieldValue raw ≡ none
-unfolding fieldValue
-plain-none [] first e = absurd (true≢false e)
-plain-none (b ∷ rest) first e = rw (e, ne-eqb b quote (first (omega arith)))
-
--- a field that does not begin with a quote is its own value
-pub plain-value : {raw value : List ℕ} → Field raw value → (1 ≤ length raw → getD raw 0 0 ≡ quote → ⊥) → value ≡ raw
-plain-value (field-escaped r) first = absurd (first (omega arith) refl)
-plain-value (field-non-escaped r) first = refl
-
--- what the measure says of a field of the grammar
-pub record Sound (raw : List ℕ) : Type 0 where
-  pub value : List ℕ
-  pub reads : fieldValue raw ≡ some value
-  pub counts : measured raw .length ≡ length value
-
-sound-by : (raw : List ℕ) (value : Option (List ℕ)) → fieldValue raw ≡ value → measuredBy value raw .sound ≡ true → Sound raw
-unfolding measured measuredBy
-sound-by raw none p e = absurd (false≢true e)
-sound-by raw (some value) p e = record { value = value; reads = p; counts = rw p }
-
-pub sound-field : (raw : List ℕ) → measured raw .sound ≡ true → Sound raw
-unfolding measured
-sound-field raw e = sound-by raw (fieldValue raw) refl e
-
-unsound-by : (raw : List ℕ) (value : Option (List ℕ)) → measuredBy value raw .sound ≡ false → value ≡ none
-unfolding measuredBy
-unsound-by raw none e = refl
-unsound-by raw (some value) e = absurd (true≢false e)
-
-pub unsound-field : (raw : List ℕ) → measured raw .sound ≡ false → fieldValue raw ≡ none
-unfolding measured
-unsound-field raw e = unsound-by raw (fieldValue raw) e
+-- what is told of a field of the grammar
+pub doubled-told : {raw value : List ℕ} → Field raw value → doubledIn raw ≡ some (holdsQuote value)
+unfolding doubledIn
+doubled-told r = rw (field-complete r)

@@ -1,54 +1,41 @@
--- What the reader finds byte after byte is the first raw field of the record, its value and what ends it.
+-- What the reader finds byte after byte is the first raw field of the record, whether it holds a doubled quote and what ends it.
 -- Assumes nothing.
 use mathlib.Core.Path.{_≡_, refl, sym, ap, _∙_}
-use mathlib.Core.Bool.{Bool, true, false, cond, _&&_, true≢false}
+use mathlib.Core.Bool.{Bool, true, false, cond, _&&_, _||_, or-false, false≢true}
 use mathlib.Core.Option.{Option, none, some, Option·map}
 use mathlib.Core.List.{List, [], _∷_}
-use Prim.Native.Nat.{ℕ, suc, _+_, _≤_, _<_}
+use Prim.Native.Nat.{ℕ, suc, _+_}
 use native.Mathlib.Omega.{arith}
 use lib.Dec.{eqb}
-use lib.ListN.{length, drop, getD, length-drop}
-use borrow.Author.Tests.{eqb-true, ne-eqb}
+use lib.ListN.{length, drop}
+use lib.Seq.{drop-drop}
+use borrow.Author.Tests.{eqb-true}
 use Rattle.rfc4180.specs.declared.ByteClass.{ByteClass}
 use Rattle.rfc4180.specs.declared.ByteClass.the-variants.{Text, Quote, Comma, CarriageReturn, LineFeed, Refused}
 use Rattle.csv.specs.declared.FieldRead.{FieldRead}
 use Rattle.rfc4180.specs.Bytes.{quote, comma, carriageReturn, lineFeed, classOf}
 use Rattle.rfc4180.specs.Records.{outsideAfter, behindEnd, endedOr, firstFrom, firstRecord}
 use Rattle.rfc4180.specs.Fields.{cutOr, rawFieldsFrom, rawFields, isText, allText, escapedByte, escapedValue, fieldValue}
-use Rattle.csv.specs.Reader.{endRead, plainRead, insideRead, quotedRead}
-use Rattle.csv.specs.Spans.{beforeComma, beforeRecordEnd, withFile, brokenField, readBy, firstRead, fieldRead}
-use Rattle.rfc4180.specs.Laws.Classes.{class-means, text-no-quote, text-no-comma, text-no-cr}
-use Rattle.rfc4180.specs.Laws.Fields.{is-text}
+use Rattle.csv.specs.Reader.{beginsWith, endBy, endRead, plainRead, insideRead, quotedRead}
+use Rattle.csv.specs.Spans.{beforeComma, beforeRecordEnd, withFile, brokenField, holdsQuote, doubledIn, readBy, firstRead, fieldRead}
+use Rattle.rfc4180.specs.Laws.Classes.{classNumber, class-means, other-byte}
+use Rattle.rfc4180.specs.Laws.Fields.{text-only}
 use Rattle.rfc4180.specs.Laws.Quotes.{NonEmpty, raw-non-empty}
-use Rattle.csv.specs.Laws.Scans.{no-end}
-use Rattle.rfc4180.specs.Laws.Places.{bytes-from}
+use Rattle.csv.specs.Laws.Spans.{no-end}
+use Rattle.csv.specs.Laws.Undoubling.{text-no-quotes}
 
--- the first raw field of the rest of a record, which is or is not outside quotes, by what gives its value
-abbrev readFrom : (valueOf : List ℕ → Option (List ℕ)) → (outside : Bool) → (at : ℕ) → (bytes : List ℕ) → FieldRead
-readFrom valueOf outside at bytes =
-    firstRead valueOf at (rawFieldsFrom outside (firstFrom outside bytes .text)) (firstFrom outside bytes .behind)
+-- the first raw field of the rest of a record, which is or is not outside quotes, by what says whether it holds a doubled quote
+abbrev readFrom : (doubled : List ℕ → Option Bool) → (outside : Bool) → (at : ℕ) → (bytes : List ℕ) → FieldRead
+readFrom doubled outside at bytes =
+    firstRead doubled at (rawFieldsFrom outside (firstFrom outside bytes .text)) (firstFrom outside bytes .behind)
 
--- ---- the value counts only by whether there is one
-
-map-read : (f : List ℕ → List ℕ) (o : Option (List ℕ)) (end : ℕ) (others : List (List ℕ)) (behind : Option (List ℕ))
-    → readBy (Option·map f o) end others behind ≡ readBy o end others behind
-unfolding readBy
-map-read f none end others behind = refl
-map-read f (some value) end [] none = refl
-map-read f (some value) end [] (some rest) = refl
-map-read f (some value) end (next ∷ others) behind = refl
-
--- two ways to the value that give one for the same raw fields
-abbrev Alike : (v w : List ℕ → Option (List ℕ)) → Type 0
-Alike v w = (raw : List ℕ) (end : ℕ) (others : List (List ℕ)) (behind : Option (List ℕ)) → readBy (v raw) end others behind ≡ readBy (w raw) end others behind
-
-alike-read : (v w : List ℕ → Option (List ℕ)) → Alike v w → (at : ℕ) (raws : List (List ℕ)) (behind : Option (List ℕ))
+alike-read : (v w : List ℕ → Option Bool) → ((raw : List ℕ) → v raw ≡ w raw) → (at : ℕ) (raws : List (List ℕ)) (behind : Option (List ℕ))
     → firstRead v at raws behind ≡ firstRead w at raws behind
 unfolding firstRead
 alike-read v w alike at [] behind = refl
-alike-read v w alike at (raw ∷ others) behind = alike raw (at + length raw) others behind
+alike-read v w alike at (raw ∷ others) behind = rw (alike raw)
 
-never-read : (v : List ℕ → Option (List ℕ)) → ((raw : List ℕ) → v raw ≡ none) → (at : ℕ) (raws : List (List ℕ)) (behind : Option (List ℕ))
+never-read : (v : List ℕ → Option Bool) → ((raw : List ℕ) → v raw ≡ none) → (at : ℕ) (raws : List (List ℕ)) (behind : Option (List ℕ))
     → firstRead v at raws behind ≡ brokenField
 unfolding firstRead readBy
 never-read v e at [] behind = refl
@@ -56,7 +43,7 @@ never-read v e at (raw ∷ others) behind = rw (e raw)
 
 -- ---- one byte
 
-byte-on : (v : List ℕ → Option (List ℕ)) (b at : ℕ) (raws : List (List ℕ)) (behind : Option (List ℕ)) → NonEmpty raws
+byte-on : (v : List ℕ → Option Bool) (b at : ℕ) (raws : List (List ℕ)) (behind : Option (List ℕ)) → NonEmpty raws
     → firstRead v at (cutOr false b raws) behind ≡ firstRead (λ raw. v (b ∷ raw)) (at + 1) raws behind
 unfolding firstRead cutOr
 byte-on v b at [] behind n = absurd n
@@ -65,219 +52,261 @@ byte-on v b at (raw ∷ others) behind n =
     rw e
 
 -- a byte that ends neither a record nor a field is the first of the field
-kept-byte : (v : List ℕ → Option (List ℕ)) (outside : Bool) (at b : ℕ) (rest : List ℕ) → behindEnd outside (b ∷ rest) ≡ none
+kept-byte : (v : List ℕ → Option Bool) (outside : Bool) (at b : ℕ) (rest : List ℕ) → behindEnd outside (b ∷ rest) ≡ none
     → (outside && eqb b comma) ≡ false → readFrom v outside at (b ∷ rest) ≡ readFrom (λ raw. v (b ∷ raw)) (outsideAfter outside b) (at + 1) rest
 unfolding firstFrom rawFieldsFrom
 kept-byte v outside at b rest on uncut =
     rw (on, endedOr, uncut) (byte-on v b at _ _ (raw-non-empty (outsideAfter outside b) (firstFrom (outsideAfter outside b) rest .text)))
 
 -- no comma cuts and no record ends inside quotes
-inside-byte : (v : List ℕ → Option (List ℕ)) (at b : ℕ) (rest : List ℕ)
+inside-byte : (v : List ℕ → Option Bool) (at b : ℕ) (rest : List ℕ)
     → readFrom v false at (b ∷ rest) ≡ readFrom (λ raw. v (b ∷ raw)) (outsideAfter false b) (at + 1) rest
 inside-byte v at b rest = kept-byte v false at b rest (no-end false b rest refl) refl
 
--- ---- the end of a field, where nothing that may still come belongs to it
+-- a byte outside quotes that nothing behind it makes sound
+breaks : (v : List ℕ → Option Bool) (at b : ℕ) (rest : List ℕ) → ((raw : List ℕ) → v (b ∷ raw) ≡ none) → behindEnd true (b ∷ rest) ≡ none
+    → eqb b comma ≡ false → readFrom v true at (b ∷ rest) ≡ brokenField
+breaks v at b rest never on uncut = kept-byte v true at b rest on uncut ∙ never-read (λ raw. v (b ∷ raw)) never (at + 1) _ _
 
-module _ (v : List ℕ → Option (List ℕ)) (value : List ℕ) (empty : v [] ≡ some value) (at : ℕ) where
-  file-ends : readFrom v true at [] ≡ withFile at
+-- ---- the end of a field
+
+module _ (v : List ℕ → Option Bool) (doubled : Bool) (empty : v [] ≡ some doubled) (at : ℕ) where
+  ends-with-file : readFrom v true at [] ≡ withFile at doubled
   unfolding firstFrom rawFieldsFrom firstRead readBy
-  file-ends = let z : at + 0 ≡ at = omega arith in rw (empty, z)
+  ends-with-file = let z : at + 0 ≡ at = omega arith in rw (empty, z)
 
-  comma-cuts : (raws : List (List ℕ)) (behind : Option (List ℕ)) → NonEmpty raws → firstRead v at ([] ∷ raws) behind ≡ beforeComma at
+  comma-cuts : (raws : List (List ℕ)) (behind : Option (List ℕ)) → NonEmpty raws → firstRead v at ([] ∷ raws) behind ≡ beforeComma at doubled
   unfolding firstRead readBy
   comma-cuts [] behind n = absurd n
   comma-cuts (raw ∷ raws) behind n = let z : at + 0 ≡ at = omega arith in rw (empty, z)
 
-  at-comma : (rest : List ℕ) → readFrom v true at (comma ∷ rest) ≡ beforeComma at
+  at-comma : (rest : List ℕ) → readFrom v true at (comma ∷ rest) ≡ beforeComma at doubled
   unfolding firstFrom rawFieldsFrom
   at-comma rest =
       rw (no-end true comma rest refl, endedOr, cutOr)
       (comma-cuts _ _ (raw-non-empty (outsideAfter true comma) (firstFrom (outsideAfter true comma) rest .text)))
 
-  comma-ends : (b : ℕ) (rest : List ℕ) → eqb b comma ≡ true → readFrom v true at (b ∷ rest) ≡ beforeComma at
-  comma-ends b rest e = rw (eqb-true b comma e) (at-comma rest)
-
-  record-ends : (rest : List ℕ) → readFrom v true at (carriageReturn ∷ lineFeed ∷ rest) ≡ beforeRecordEnd at
+  at-record-end : (rest : List ℕ) → readFrom v true at (carriageReturn ∷ lineFeed ∷ rest) ≡ beforeRecordEnd at doubled
   unfolding firstFrom rawFieldsFrom firstRead readBy behindEnd endedOr
-  record-ends rest = let z : at + 0 ≡ at = omega arith in rw (empty, z)
+  at-record-end rest = let z : at + 0 ≡ at = omega arith in rw (empty, z)
 
-  module _ (b : ℕ) (never : (raw : List ℕ) → v (b ∷ raw) ≡ none) where
-    breaks : (rest : List ℕ) → behindEnd true (b ∷ rest) ≡ none → eqb b comma ≡ false → readFrom v true at (b ∷ rest) ≡ brokenField
-    breaks rest on uncut = kept-byte v true at b rest on uncut ∙ never-read (λ raw. v (b ∷ raw)) never (at + 1) _ _
+  at-cr : (rest : List ℕ) (text : FieldRead) → ((raw : List ℕ) → v (carriageReturn ∷ raw) ≡ none)
+      → readFrom v true at (carriageReturn ∷ rest) ≡ endBy CarriageReturn (beginsWith lineFeed rest) at doubled text
+  unfolding endBy beginsWith behindEnd
+  at-cr [] text never = breaks v at carriageReturn [] never refl refl
+  at-cr (c ∷ rest) text never = go (eqb c lineFeed) refl
+    where
+      go : (t : Bool) → eqb c lineFeed ≡ t → readFrom v true at (carriageReturn ∷ c ∷ rest) ≡ endBy CarriageReturn t at doubled text
+      go true e = rw (eqb-true c lineFeed e) (at-record-end rest)
+      go false e = breaks v at carriageReturn (c ∷ rest) never (rw e) refl
 
-    byte-ends : (rest : List ℕ) → readFrom v true at (b ∷ rest) ≡ endRead at (b ∷ rest)
-    unfolding endRead
-    byte-ends rest = go (eqb b comma) refl rest
-      where
-        by-cr : (c : ℕ) (rest : List ℕ) (s t : Bool) → eqb b carriageReturn ≡ s → eqb c lineFeed ≡ t → eqb b comma ≡ false
-            → readFrom v true at (b ∷ c ∷ rest) ≡ cond (s && t) (beforeRecordEnd at) brokenField
-        by-cr c rest true true p q e = rw (eqb-true b carriageReturn p, eqb-true c lineFeed q) (record-ends rest)
-        by-cr c rest true false p q e = breaks (c ∷ rest) (unfold behindEnd in rw (p, q)) e
-        by-cr c rest false t p q e = breaks (c ∷ rest) (no-end true b (c ∷ rest) p) e
+  -- the byte at which a field may end decides by its class, where no byte but text can go on
+  byte-ends : (b : ℕ) (rest : List ℕ) (text : FieldRead) → (classOf b ≡ Text → readFrom v true at (b ∷ rest) ≡ text)
+      → (isText (classOf b) ≡ false → (raw : List ℕ) → v (b ∷ raw) ≡ none)
+      → readFrom v true at (b ∷ rest) ≡ endBy (classOf b) (beginsWith lineFeed rest) at doubled text
+  unfolding endBy isText classOf
+  byte-ends b rest text on never = go (classOf b) refl
+    where
+      other : {k : ByteClass} → classOf b ≡ k → isText k ≡ false → eqb (classNumber k) 2 ≡ false → eqb (classNumber k) 3 ≡ false
+          → readFrom v true at (b ∷ rest) ≡ brokenField
+      other e p q r = breaks v at b rest (never (rw e p)) (no-end true b rest (other-byte b carriageReturn e r)) (other-byte b comma e q)
 
-        go : (t : Bool) → eqb b comma ≡ t → (rest : List ℕ) → readFrom v true at (b ∷ rest) ≡ endRead at (b ∷ rest)
-        go true e [] = rw e (comma-ends b [] e)
-        go true e (c ∷ rest) = rw e (comma-ends b (c ∷ rest) e)
-        go false e [] = rw e (breaks [] (unfold behindEnd in refl) e)
-        go false e (c ∷ rest) = rw e (by-cr c rest (eqb b carriageReturn) (eqb c lineFeed) refl refl e)
+      go : (k : ByteClass) → classOf b ≡ k → readFrom v true at (b ∷ rest) ≡ endBy k (beginsWith lineFeed rest) at doubled text
+      go Text e = on e
+      go Quote e = other e refl refl refl
+      go Comma e = rw (class-means b e) (at-comma rest)
+      go CarriageReturn e = rw (class-means b e) (at-cr rest text (rw (class-means b e) at (never (rw e refl))))
+      go LineFeed e = other e refl refl refl
+      go Refused e = other e refl refl refl
 
 -- ---- a field that is not quoted
 
-abbrev textValue : List ℕ → Option (List ℕ)
-textValue raw = cond (allText raw) (some raw) none
+abbrev inText : List ℕ → Option Bool
+inText raw = cond (allText raw) (some false) none
 
-text-alike : (b : ℕ) → isText (classOf b) ≡ true → Alike (λ raw. textValue (b ∷ raw)) textValue
-unfolding allText readBy
-text-alike b text raw end others behind = rw text (go (allText raw))
-  where
-    go : (t : Bool) → readBy (cond t (some (b ∷ raw)) none) end others behind ≡ readBy (cond t (some raw) none) end others behind
-    go true = sym (map-read (λ (l : List ℕ). b ∷ l) (some raw) end others behind)
-    go false = refl
+text-alike : (b : ℕ) → classOf b ≡ Text → (raw : List ℕ) → inText (b ∷ raw) ≡ inText raw
+unfolding allText isText
+text-alike b e raw = rw e
 
-text-on : (v : List ℕ → Option (List ℕ)) (at b : ℕ) (rest : List ℕ) → isText (classOf b) ≡ true
-    → readFrom v true at (b ∷ rest) ≡ readFrom (λ raw. v (b ∷ raw)) true (at + 1) rest
-unfolding outsideAfter
-text-on v at b rest text =
-    let t = is-text b (classOf b) refl text in
-    kept-byte v true at b rest (no-end true b rest (text-no-cr t)) (text-no-comma t) ∙ rw (text-no-quote t)
-
-text-never : (b : ℕ) → isText (classOf b) ≡ false → (raw : List ℕ) → textValue (b ∷ raw) ≡ none
+text-never : (b : ℕ) → isText (classOf b) ≡ false → (raw : List ℕ) → inText (b ∷ raw) ≡ none
 unfolding allText
 text-never b other raw = rw other
 
-plain-read : (at : ℕ) (bytes : List ℕ) → readFrom textValue true at bytes ≡ plainRead at bytes
+text-on : (v : List ℕ → Option Bool) (at b : ℕ) (rest : List ℕ) → classOf b ≡ Text
+    → readFrom v true at (b ∷ rest) ≡ readFrom (λ raw. v (b ∷ raw)) true (at + 1) rest
+unfolding outsideAfter classOf
+text-on v at b rest e =
+    kept-byte v true at b rest (no-end true b rest (other-byte b carriageReturn e refl)) (other-byte b comma e refl)
+    ∙ rw (other-byte b quote e refl)
+
+plain-read : (at : ℕ) (bytes : List ℕ) → readFrom inText true at bytes ≡ plainRead at bytes
 unfolding plainRead
-plain-read at [] = file-ends textValue [] (unfold allText in refl) at
-plain-read at (b ∷ rest) = go (isText (classOf b)) refl (plain-read (at + 1) rest)
+plain-read at [] = ends-with-file inText false (unfold allText in refl) at
+plain-read at (b ∷ rest) =
+    byte-ends inText false (unfold allText in refl) at b rest (plainRead (at + 1) rest)
+    (λ e. text-on inText at b rest e ∙ alike-read _ inText (text-alike b e) (at + 1) _ _ ∙ plain-read (at + 1) rest)
+    (text-never b)
+
+-- a raw field that does not begin with a quote
+unquoted-alike : (b : ℕ) (raw : List ℕ) → eqb b quote ≡ false → doubledIn (b ∷ raw) ≡ inText (b ∷ raw)
+unfolding doubledIn fieldValue
+unquoted-alike b raw other =
+    ap (λ (t : Bool). Option·map holdsQuote (cond t (escapedValue raw) (cond (allText (b ∷ raw)) (some (b ∷ raw)) none))) other
+    ∙ go (allText (b ∷ raw)) refl
   where
-    go : (t : Bool) → isText (classOf b) ≡ t → readFrom textValue true (at + 1) rest ≡ plainRead (at + 1) rest
-        → readFrom textValue true at (b ∷ rest) ≡ cond t (plainRead (at + 1) rest) (endRead at (b ∷ rest))
-    go true e further = text-on textValue at b rest e ∙ alike-read _ textValue (text-alike b e) (at + 1) _ _ ∙ further
-    go false e further = byte-ends textValue [] (unfold allText in refl) at b (text-never b e) rest
+    go : (t : Bool) → allText (b ∷ raw) ≡ t → Option·map holdsQuote (cond t (some (b ∷ raw)) none) ≡ cond t (some false) none
+    go true e = ap some (text-no-quotes (text-only (b ∷ raw) e))
+    go false e = refl
+
+unquoted-read : (at : ℕ) (bytes : List ℕ) → beginsWith quote bytes ≡ false → readFrom doubledIn true at bytes ≡ plainRead at bytes
+unfolding plainRead beginsWith
+unquoted-read at [] other = ends-with-file doubledIn false (unfold doubledIn fieldValue holdsQuote in refl) at
+unquoted-read at (b ∷ rest) other =
+    byte-ends doubledIn false (unfold doubledIn fieldValue holdsQuote in refl) at b rest (plainRead (at + 1) rest)
+    (λ e.
+    text-on doubledIn at b rest e
+    ∙ alike-read _ inText (λ raw. unquoted-alike b raw other ∙ text-alike b e raw) (at + 1) _ _
+    ∙ plain-read (at + 1) rest)
+    (λ e raw. unquoted-alike b raw other ∙ text-never b e raw)
 
 -- ---- a quoted field
 
+-- whether a quoted field holds a doubled quote, by what stands behind its opening quote, where one has been met before or not
+abbrev inQuotes : (doubled : Bool) → List ℕ → Option Bool
+inQuotes doubled raw = Option·map (λ (value : List ℕ). holdsQuote value || doubled) (escapedValue raw)
+
 -- a byte that stands for itself inside quotes
-itself-alike : (b : ℕ) → eqb b quote ≡ false → ((t : Bool) (x y : Option (List ℕ)) → escapedByte (classOf b) t x y ≡ x)
-    → Alike (λ raw. escapedValue (b ∷ raw)) escapedValue
-unfolding escapedValue
-itself-alike b other itself [] end others behind = rw other
-itself-alike b other itself (c ∷ raw) end others behind =
-    rw (itself (eqb c quote) (Option·map (λ (value : List ℕ). b ∷ value) (escapedValue (c ∷ raw))) (Option·map (λ (value : List ℕ). quote ∷ value) (escapedValue raw)))
-    (map-read (λ (value : List ℕ). b ∷ value) (escapedValue (c ∷ raw)) end others behind)
+itself-alike : (doubled : Bool) (b : ℕ) → eqb b quote ≡ false → ((t : Bool) (x y : Option (List ℕ)) → escapedByte (classOf b) t x y ≡ x)
+    → (raw : List ℕ) → inQuotes doubled (b ∷ raw) ≡ inQuotes doubled raw
+unfolding escapedValue holdsQuote
+itself-alike doubled b other itself [] = rw other
+itself-alike doubled b other itself (c ∷ raw) =
+    let one = Option·map (λ (value : List ℕ). b ∷ value) (escapedValue (c ∷ raw)) in
+    let pair = Option·map (λ (value : List ℕ). quote ∷ value) (escapedValue raw) in
+    rw (itself (eqb c quote) one pair)
+    (go (escapedValue (c ∷ raw)))
+  where
+    go : (o : Option (List ℕ)) → Option·map (λ (value : List ℕ). holdsQuote value || doubled) (Option·map (λ (value : List ℕ). b ∷ value) o)
+        ≡ Option·map (λ (value : List ℕ). holdsQuote value || doubled) o
+    go none = refl
+    go (some value) = rw other
 
-itself-on : (at b : ℕ) (rest : List ℕ) → eqb b quote ≡ false → ((t : Bool) (x y : Option (List ℕ)) → escapedByte (classOf b) t x y ≡ x)
-    → readFrom escapedValue false at (b ∷ rest) ≡ readFrom escapedValue false (at + 1) rest
+itself-on : (doubled : Bool) (at b : ℕ) (rest : List ℕ) → eqb b quote ≡ false
+    → ((t : Bool) (x y : Option (List ℕ)) → escapedByte (classOf b) t x y ≡ x)
+    → readFrom (inQuotes doubled) false at (b ∷ rest) ≡ readFrom (inQuotes doubled) false (at + 1) rest
 unfolding outsideAfter
-itself-on at b rest other itself =
-    inside-byte escapedValue at b rest ∙ rw other (alike-read _ escapedValue (itself-alike b other itself) (at + 1) _ _)
+itself-on doubled at b rest other itself =
+    inside-byte (inQuotes doubled) at b rest ∙ rw other (alike-read _ (inQuotes doubled) (itself-alike doubled b other itself) (at + 1) _ _)
 
-refused-never : (b : ℕ) → classOf b ≡ Refused → eqb b quote ≡ false → (raw : List ℕ) → escapedValue (b ∷ raw) ≡ none
-unfolding escapedValue escapedByte
-refused-never b e other [] = rw other
-refused-never b e other (c ∷ raw) = rw e
+refused-never : (doubled : Bool) (b : ℕ) → classOf b ≡ Refused → (raw : List ℕ) → inQuotes doubled (b ∷ raw) ≡ none
+unfolding escapedValue escapedByte classOf
+refused-never doubled b e [] = rw (other-byte b quote e refl)
+refused-never doubled b e (c ∷ raw) = rw e
 
-doubled-alike : Alike (λ raw. escapedValue (quote ∷ quote ∷ raw)) escapedValue
-unfolding escapedValue
-doubled-alike raw end others behind = map-read (λ (value : List ℕ). quote ∷ value) (escapedValue raw) end others behind
+pair-alike : (doubled : Bool) (raw : List ℕ) → inQuotes doubled (quote ∷ quote ∷ raw) ≡ inQuotes true raw
+unfolding escapedValue holdsQuote
+pair-alike doubled raw = go (escapedValue raw)
+  where
+    either : (t : Bool) → true ≡ (t || true)
+    either true = refl
+    either false = refl
 
-doubled-on : (at : ℕ) (rest : List ℕ) → readFrom escapedValue false at (quote ∷ quote ∷ rest) ≡ readFrom escapedValue false (at + 2) rest
+    go : (o : Option (List ℕ)) → Option·map (λ (value : List ℕ). holdsQuote value || doubled) (Option·map (λ (value : List ℕ). quote ∷ value) o)
+        ≡ Option·map (λ (value : List ℕ). holdsQuote value || true) o
+    go none = refl
+    go (some value) = ap some (either (holdsQuote value))
+
+pair-on : (doubled : Bool) (at : ℕ) (rest : List ℕ)
+    → readFrom (inQuotes doubled) false at (quote ∷ quote ∷ rest) ≡ readFrom (inQuotes true) false (at + 2) rest
 unfolding outsideAfter
-doubled-on at rest =
+pair-on doubled at rest =
     let e : at + 1 + 1 ≡ at + 2 = omega arith in
-    inside-byte escapedValue at quote (quote ∷ rest)
-    ∙ kept-byte (λ raw. escapedValue (quote ∷ raw)) true (at + 1) quote rest (no-end true quote rest refl) refl
-    ∙ rw e (alike-read _ escapedValue doubled-alike (at + 2) _ _)
+    inside-byte (inQuotes doubled) at quote (quote ∷ rest)
+    ∙ kept-byte (λ raw. inQuotes doubled (quote ∷ raw)) true (at + 1) quote rest (no-end true quote rest refl) refl
+    ∙ rw e (alike-read _ (inQuotes true) (pair-alike doubled) (at + 2) _ _)
 
 -- behind a closing quote the field ends
-closed-ends : (at c : ℕ) (rest : List ℕ) → eqb c quote ≡ false → readFrom escapedValue false at (quote ∷ c ∷ rest) ≡ endRead (at + 1) (c ∷ rest)
-unfolding outsideAfter
-closed-ends at c rest other =
-    inside-byte escapedValue at quote (c ∷ rest)
-    ∙ byte-ends (λ raw. escapedValue (quote ∷ raw)) [] (unfold escapedValue in refl) (at + 1) c
-    (λ raw. unfold escapedValue escapedByte in rw other) rest
+closed-ends : (doubled : Bool) (at : ℕ) (rest : List ℕ) → beginsWith quote rest ≡ false
+    → readFrom (inQuotes doubled) false at (quote ∷ rest) ≡ endRead (at + 1) doubled rest
+unfolding outsideAfter endRead beginsWith
+closed-ends doubled at [] other =
+    inside-byte (inQuotes doubled) at quote []
+    ∙ ends-with-file (λ raw. inQuotes doubled (quote ∷ raw)) doubled (unfold escapedValue holdsQuote in refl) (at + 1)
+closed-ends doubled at (c ∷ rest) other =
+    let never : (raw : List ℕ) → inQuotes doubled (quote ∷ c ∷ raw) ≡ none = λ raw. unfold escapedValue escapedByte in rw other in
+    inside-byte (inQuotes doubled) at quote (c ∷ rest)
+    ∙ byte-ends (λ raw. inQuotes doubled (quote ∷ raw)) doubled (unfold escapedValue holdsQuote in refl) (at + 1) c rest brokenField
+    (λ e. unfold classOf in breaks _ (at + 1) c rest never (no-end true c rest (other-byte c carriageReturn e refl)) (other-byte c comma e refl))
+    (λ e. never)
 
-abbrev pub isQuote : ByteClass → Bool
-isQuote Text = false
-isQuote Quote = true
-isQuote Comma = false
-isQuote CarriageReturn = false
-isQuote LineFeed = false
-isQuote Refused = false
-
-pub class-no-quote : (b : ℕ) (k : ByteClass) → classOf b ≡ k → isQuote k ≡ false → eqb b quote ≡ false
-unfolding classOf
-class-no-quote b k e other = go (eqb b quote) refl
+quoted-read : (doubled : Bool) (at : ℕ) (bytes : List ℕ) → readFrom (inQuotes doubled) false at bytes ≡ quotedRead doubled at bytes
+unfolding quotedRead insideRead escapedByte classOf
+quoted-read doubled at [] = unfold firstFrom rawFieldsFrom firstRead readBy escapedValue in refl
+quoted-read doubled at (b ∷ []) = go (classOf b) refl
   where
-    go : (t : Bool) → eqb b quote ≡ t → eqb b quote ≡ false
-    go true p =
-        let named : Quote ≡ k = rw (eqb-true b quote p) at e in
-        absurd (true≢false (ap isQuote named ∙ other))
-    go false p = p
+    nothing : readFrom (inQuotes doubled) false (at + 1) [] ≡ brokenField
+    nothing = unfold firstFrom rawFieldsFrom firstRead readBy escapedValue in refl
 
-last-read : (at b : ℕ) → readFrom escapedValue false at (b ∷ []) ≡ cond (eqb b quote) (withFile (at + 1)) brokenField
-unfolding firstFrom rawFieldsFrom firstRead readBy escapedValue
-last-read at b = inside-byte escapedValue at b [] ∙ go (eqb b quote) refl
+    go : (k : ByteClass) → classOf b ≡ k
+        → readFrom (inQuotes doubled) false at (b ∷ []) ≡ insideRead k false brokenField brokenField (endRead (at + 1) doubled [])
+    go Text e = itself-on doubled at b [] (other-byte b quote e refl) (λ t x y. rw e) ∙ nothing
+    go Comma e = itself-on doubled at b [] (other-byte b quote e refl) (λ t x y. rw e) ∙ nothing
+    go CarriageReturn e = itself-on doubled at b [] (other-byte b quote e refl) (λ t x y. rw e) ∙ nothing
+    go LineFeed e = itself-on doubled at b [] (other-byte b quote e refl) (λ t x y. rw e) ∙ nothing
+    go Refused e = inside-byte (inQuotes doubled) at b [] ∙ never-read _ (refused-never doubled b e) (at + 1) _ _
+    go Quote e = rw (class-means b e) (closed-ends doubled at [] (unfold beginsWith in refl))
+quoted-read doubled at (b ∷ c ∷ rest) = go (classOf b) refl (quoted-read doubled (at + 1) (c ∷ rest)) (quoted-read true (at + 2) rest)
   where
-    go : (t : Bool) → eqb b quote ≡ t
-        → readFrom (λ raw. escapedValue (b ∷ raw)) (outsideAfter false b) (at + 1) [] ≡ cond t (withFile (at + 1)) brokenField
-    go true e = let z : at + 1 + 0 ≡ at + 1 = omega arith in rw (e, z)
-    go false e = rw e
-
-quoted-read : (at : ℕ) (bytes : List ℕ) → readFrom escapedValue false at bytes ≡ quotedRead at bytes
-unfolding quotedRead insideRead escapedByte
-quoted-read at [] = unfold firstFrom rawFieldsFrom firstRead readBy escapedValue in refl
-quoted-read at (b ∷ []) = last-read at b
-quoted-read at (b ∷ c ∷ rest) = go (classOf b) refl (quoted-read (at + 1) (c ∷ rest)) (quoted-read (at + 2) rest)
-  where
-    go : (k : ByteClass) → classOf b ≡ k → readFrom escapedValue false (at + 1) (c ∷ rest) ≡ quotedRead (at + 1) (c ∷ rest)
-        → readFrom escapedValue false (at + 2) rest ≡ quotedRead (at + 2) rest
-        → readFrom escapedValue false at (b ∷ c ∷ rest)
-        ≡ insideRead k (eqb c quote) (quotedRead (at + 1) (c ∷ rest)) (quotedRead (at + 2) rest) (endRead (at + 1) (c ∷ rest))
-    go Text e one two = itself-on at b (c ∷ rest) (class-no-quote b Text e refl) (λ t x y. rw e) ∙ one
-    go Comma e one two = itself-on at b (c ∷ rest) (class-no-quote b Comma e refl) (λ t x y. rw e) ∙ one
-    go CarriageReturn e one two = itself-on at b (c ∷ rest) (class-no-quote b CarriageReturn e refl) (λ t x y. rw e) ∙ one
-    go LineFeed e one two = itself-on at b (c ∷ rest) (class-no-quote b LineFeed e refl) (λ t x y. rw e) ∙ one
-    go Refused e one two =
-        inside-byte escapedValue at b (c ∷ rest) ∙ never-read _ (refused-never b e (class-no-quote b Refused e refl)) (at + 1) _ _
+    go : (k : ByteClass) → classOf b ≡ k → readFrom (inQuotes doubled) false (at + 1) (c ∷ rest) ≡ quotedRead doubled (at + 1) (c ∷ rest)
+        → readFrom (inQuotes true) false (at + 2) rest ≡ quotedRead true (at + 2) rest
+        → readFrom (inQuotes doubled) false at (b ∷ c ∷ rest)
+        ≡ insideRead k (eqb c quote) (quotedRead doubled (at + 1) (c ∷ rest)) (quotedRead true (at + 2) rest) (endRead (at + 1) doubled (c ∷ rest))
+    go Text e one two = itself-on doubled at b (c ∷ rest) (other-byte b quote e refl) (λ t x y. rw e) ∙ one
+    go Comma e one two = itself-on doubled at b (c ∷ rest) (other-byte b quote e refl) (λ t x y. rw e) ∙ one
+    go CarriageReturn e one two = itself-on doubled at b (c ∷ rest) (other-byte b quote e refl) (λ t x y. rw e) ∙ one
+    go LineFeed e one two = itself-on doubled at b (c ∷ rest) (other-byte b quote e refl) (λ t x y. rw e) ∙ one
+    go Refused e one two = inside-byte (inQuotes doubled) at b (c ∷ rest) ∙ never-read _ (refused-never doubled b e) (at + 1) _ _
     go Quote e one two = rw (class-means b e) (by-next (eqb c quote) refl)
       where
         by-next : (t : Bool) → eqb c quote ≡ t
-            → readFrom escapedValue false at (quote ∷ c ∷ rest)
-            ≡ insideRead Quote t (quotedRead (at + 1) (c ∷ rest)) (quotedRead (at + 2) rest) (endRead (at + 1) (c ∷ rest))
-        by-next true p = rw (eqb-true c quote p) (doubled-on at rest) ∙ two
-        by-next false p = closed-ends at c rest p
+            → readFrom (inQuotes doubled) false at (quote ∷ c ∷ rest)
+            ≡ insideRead Quote t (quotedRead doubled (at + 1) (c ∷ rest)) (quotedRead true (at + 2) rest) (endRead (at + 1) doubled (c ∷ rest))
+        by-next true p = rw (eqb-true c quote p) (pair-on doubled at rest) ∙ two
+        by-next false p = closed-ends doubled at (c ∷ rest) (unfold beginsWith in p)
 
 -- ---- any field
 
--- behind an opening quote
-quote-read : (at : ℕ) (rest : List ℕ) → readFrom fieldValue true at (quote ∷ rest) ≡ quotedRead (at + 1) rest
-unfolding outsideAfter fieldValue
-quote-read at rest = kept-byte fieldValue true at quote rest (no-end true quote rest refl) refl ∙ quoted-read (at + 1) rest
-
--- a field that does not begin with a quote
-unquoted-read : (at : ℕ) (bytes : List ℕ) → (1 ≤ length bytes → eqb (getD bytes 0 0) quote ≡ false) → readFrom fieldValue true at bytes ≡ plainRead at bytes
-unfolding plainRead fieldValue
-unquoted-read at [] other = file-ends fieldValue [] refl at
-unquoted-read at (b ∷ rest) other = go (isText (classOf b)) refl (other (omega arith))
+quoted-alike : (raw : List ℕ) → doubledIn (quote ∷ raw) ≡ inQuotes false raw
+unfolding doubledIn fieldValue
+quoted-alike raw = go (escapedValue raw)
   where
-    go : (t : Bool) → isText (classOf b) ≡ t → eqb b quote ≡ false
-        → readFrom fieldValue true at (b ∷ rest) ≡ cond t (plainRead (at + 1) rest) (endRead at (b ∷ rest))
-    go true e p =
-        text-on fieldValue at b rest e
-        ∙ alike-read _ (λ raw. textValue (b ∷ raw)) (λ raw end others behind. rw p) (at + 1) _ _
-        ∙ alike-read _ textValue (text-alike b e) (at + 1) _ _
-        ∙ plain-read (at + 1) rest
-    go false e p = byte-ends fieldValue [] refl at b (λ raw. ap (λ (t : Bool). cond t (escapedValue raw) (textValue (b ∷ raw))) p ∙ text-never b e raw) rest
+    go : (o : Option (List ℕ)) → Option·map holdsQuote o ≡ Option·map (λ (value : List ℕ). holdsQuote value || false) o
+    go none = refl
+    go (some value) = ap some (sym (or-false (holdsQuote value)))
+
+-- behind an opening quote
+quote-read : (at : ℕ) (rest : List ℕ) → readFrom doubledIn true at (quote ∷ rest) ≡ quotedRead false (at + 1) rest
+unfolding outsideAfter
+quote-read at rest =
+    kept-byte doubledIn true at quote rest (no-end true quote rest refl) refl
+    ∙ alike-read _ (inQuotes false) quoted-alike (at + 1) _ _
+    ∙ quoted-read false (at + 1) rest
+
+first-quote : (at b : ℕ) (rest : List ℕ) → eqb b quote ≡ true → readFrom doubledIn true at (b ∷ rest) ≡ quotedRead false (at + 1) rest
+first-quote at b rest e = rw (eqb-true b quote e) (quote-read at rest)
 
 module _ (file : List ℕ) (from : ℕ) where
-  pub field-quoted : from < length file → getD file from 0 ≡ quote → fieldRead file from ≡ quotedRead (from + 1) (drop (from + 1) file)
-  unfolding fieldRead rawFields firstRecord
-  field-quoted h e = rw (bytes-from file from h, e) (quote-read from (drop (from + 1) file))
-
-  pub field-unquoted : (from < length file → getD file from 0 ≡ quote → ⊥) → fieldRead file from ≡ plainRead from (drop from file)
-  unfolding fieldRead rawFields firstRecord
-  field-unquoted other = unquoted-read from (drop from file) λ h. go (omega (arith, length-drop from file))
+  pub field-quoted : beginsWith quote (drop from file) ≡ true → fieldRead file from ≡ quotedRead false (from + 1) (drop (from + 1) file)
+  unfolding fieldRead rawFields firstRecord beginsWith
+  field-quoted e = go (drop from file) refl e
     where
-      go : from < length file → eqb (getD (drop from file) 0 0) quote ≡ false
-      go h = rw (bytes-from file from h) (ne-eqb (getD file from 0) quote (other h))
+      go : (bytes : List ℕ) → drop from file ≡ bytes → beginsWith quote bytes ≡ true
+          → readFrom doubledIn true from (drop from file) ≡ quotedRead false (from + 1) (drop (from + 1) file)
+      go [] p e = absurd (false≢true e)
+      go (b ∷ rest) p e =
+          let behind : drop (from + 1) file ≡ rest = sym (drop-drop 1 from file) ∙ ap (drop 1) p in
+          rw (p, behind) (first-quote from b rest e)
+
+  pub field-unquoted : beginsWith quote (drop from file) ≡ false → fieldRead file from ≡ plainRead from (drop from file)
+  unfolding fieldRead rawFields firstRecord
+  field-unquoted e = unquoted-read from (drop from file) e

@@ -1,143 +1,189 @@
 -- The steps of the reader, at the places of a file: what it finds from a byte on is what it finds behind that byte, or ends there.
 -- Assumes nothing.
 use mathlib.Core.Path.{_≡_, refl, _∙_}
-use mathlib.Core.Bool.{Bool, true, false, cond, _&&_, true≢false}
+use mathlib.Core.Bool.{Bool, true, false, cond, false≢true}
 use mathlib.Core.List.{List, [], _∷_}
 use Prim.Native.Nat.{ℕ, _+_, _≤_, _<_}
 use native.Mathlib.Omega.{arith}
 use lib.Dec.{eqb, ltb}
 use lib.ListN.{length, drop, getD, drop-of-length-le}
-use borrow.Author.Tests.{eqb-true, ne-eqb, eq-eqb, ltb-true, ltb-false}
+use lib.Seq.{drop-drop}
+use borrow.Author.Tests.{eqb-true, ltb-true, ltb-false}
 use Rattle.rfc4180.specs.declared.ByteClass.{ByteClass}
 use Rattle.rfc4180.specs.declared.ByteClass.the-variants.{Text, Quote, Comma, CarriageReturn, LineFeed, Refused}
 use Rattle.csv.specs.declared.FieldRead.{FieldRead}
-use Rattle.rfc4180.specs.Bytes.{quote, comma, carriageReturn, lineFeed, classOf}
-use Rattle.csv.specs.Reader.{endRead, plainRead, insideRead, quotedRead}
+use Rattle.rfc4180.specs.Bytes.{quote, lineFeed, classOf}
+use Rattle.csv.specs.Reader.{beginsWith, endBy, endRead, plainRead, insideRead, quotedRead}
 use Rattle.csv.specs.Scans.{isPlain, Found}
-use Rattle.csv.specs.Spans.{beforeComma, beforeRecordEnd, withFile, brokenField}
+use Rattle.csv.specs.Spans.{beforeRecordEnd, brokenField, withFile}
 use Rattle.rfc4180.specs.Laws.Classes.{class-means}
-use Rattle.csv.specs.Laws.Reader.{isQuote, class-no-quote}
-use Rattle.csv.specs.Laws.Scans.{all-passed, plain-means, plain-text, other-text, plain-allowed}
 use Rattle.rfc4180.specs.Laws.Places.{bytes-from}
+use Rattle.csv.specs.Laws.Scans.{all-passed}
 
--- a byte inside quotes that is allowed there and no quote
-allowed-on : (k : ByteClass) → isQuote k ≡ false → (k ≡ Refused → ⊥) → (t : Bool) (on doubled closed : FieldRead) → insideRead k t on doubled closed ≡ on
+-- ---- what stands at a place
+
+module _ (bytes : List ℕ) (at b : ℕ) where
+  pub begins-here : at < length bytes → eqb (getD bytes at 0) b ≡ beginsWith b (drop at bytes)
+  unfolding beginsWith
+  begins-here h = rw (bytes-from bytes at h)
+
+  pub begins-not : length bytes ≤ at → false ≡ beginsWith b (drop at bytes)
+  unfolding beginsWith
+  begins-not h = rw (drop-of-length-le bytes {i = at} h)
+
+  -- a byte that stands at a place stands in the bytes
+  pub begins-within : beginsWith b (drop at bytes) ≡ true → (at < length bytes) × (getD bytes at 0 ≡ b)
+  begins-within e = go (ltb at (length bytes)) refl
+    where
+      go : (t : Bool) → ltb at (length bytes) ≡ t → (at < length bytes) × (getD bytes at 0 ≡ b)
+      go true p =
+          let h = ltb-true at (length bytes) p in
+          (h, eqb-true (getD bytes at 0) b (begins-here h ∙ e))
+      go false p = absurd (false≢true (begins-not (ltb-false at (length bytes) p) ∙ e))
+
+-- ---- one byte
+
+-- the byte at which a field may end goes on where it is text
+end-plain : (k : ByteClass) → isPlain false k ≡ true → (t : Bool) (at : ℕ) (doubled : Bool) (text : FieldRead) → endBy k t at doubled text ≡ text
+unfolding isPlain endBy
+end-plain Text p t at doubled text = refl
+end-plain Quote p t at doubled text = absurd (false≢true p)
+end-plain Comma p t at doubled text = absurd (false≢true p)
+end-plain CarriageReturn p t at doubled text = absurd (false≢true p)
+end-plain LineFeed p t at doubled text = absurd (false≢true p)
+end-plain Refused p t at doubled text = absurd (false≢true p)
+
+-- a CR ends a field where LF follows, and else breaks it
+pub end-cr : {k : ByteClass} → k ≡ CarriageReturn → (t : Bool) (at : ℕ) (doubled : Bool) (text : FieldRead)
+    → endBy k t at doubled text ≡ cond t (beforeRecordEnd at doubled) brokenField
+unfolding endBy
+end-cr e true at doubled text = rw e
+end-cr e false at doubled text = rw e
+
+-- every byte but a comma and a CR breaks it, where text does
+pub end-broken : (k : ByteClass) → (k ≡ Comma → ⊥) → (k ≡ CarriageReturn → ⊥) → (t : Bool) (at : ℕ) (doubled : Bool) (text : FieldRead)
+    → (k ≡ Text → text ≡ brokenField) → endBy k t at doubled text ≡ brokenField
+unfolding endBy
+end-broken Text p q t at doubled text e = e refl
+end-broken Quote p q t at doubled text e = refl
+end-broken Comma p q t at doubled text e = absurd (p refl)
+end-broken CarriageReturn p q t at doubled text e = absurd (q refl)
+end-broken LineFeed p q t at doubled text e = refl
+end-broken Refused p q t at doubled text e = refl
+
+-- a byte inside quotes goes on where it is plain there
+inside-plain : (k : ByteClass) → isPlain true k ≡ true → (t : Bool) (on pair closed : FieldRead) → insideRead k t on pair closed ≡ on
+unfolding isPlain insideRead
+inside-plain Text p t on pair closed = refl
+inside-plain Quote p t on pair closed = absurd (false≢true p)
+inside-plain Comma p t on pair closed = refl
+inside-plain CarriageReturn p t on pair closed = absurd (false≢true p)
+inside-plain LineFeed p t on pair closed = absurd (false≢true p)
+inside-plain Refused p t on pair closed = absurd (false≢true p)
+
+-- and where it is allowed there and no quote
+inside-allowed : (k : ByteClass) → (k ≡ Quote → ⊥) → (k ≡ Refused → ⊥) → (t : Bool) (on pair closed : FieldRead) → insideRead k t on pair closed ≡ on
 unfolding insideRead
-allowed-on Text p q t on doubled closed = refl
-allowed-on Quote p q t on doubled closed = absurd (true≢false p)
-allowed-on Comma p q t on doubled closed = refl
-allowed-on CarriageReturn p q t on doubled closed = refl
-allowed-on LineFeed p q t on doubled closed = refl
-allowed-on Refused p q t on doubled closed = absurd (q refl)
+inside-allowed Text p q t on pair closed = refl
+inside-allowed Quote p q t on pair closed = absurd (p refl)
+inside-allowed Comma p q t on pair closed = refl
+inside-allowed CarriageReturn p q t on pair closed = refl
+inside-allowed LineFeed p q t on pair closed = refl
+inside-allowed Refused p q t on pair closed = absurd (q refl)
 
-quoted-on : (at b : ℕ) (rest : List ℕ) → isQuote (classOf b) ≡ false → (classOf b ≡ Refused → ⊥) → quotedRead at (b ∷ rest) ≡ quotedRead (at + 1) rest
-unfolding quotedRead
-quoted-on at b [] p q = rw (class-no-quote b (classOf b) refl p)
-quoted-on at b (c ∷ rest) p q = allowed-on (classOf b) p q (eqb c quote) _ _ _
+-- where no quote follows, a pair is no way
+no-pair : (k : ByteClass) (on pair other closed : FieldRead) → insideRead k false on pair closed ≡ insideRead k false on other closed
+unfolding insideRead
+no-pair Text on pair other closed = refl
+no-pair Quote on pair other closed = refl
+no-pair Comma on pair other closed = refl
+no-pair CarriageReturn on pair other closed = refl
+no-pair LineFeed on pair other closed = refl
+no-pair Refused on pair other closed = refl
 
-quoted-refused : (at b : ℕ) (rest : List ℕ) → classOf b ≡ Refused → quotedRead at (b ∷ rest) ≡ brokenField
-unfolding quotedRead insideRead
-quoted-refused at b [] e = rw (class-no-quote b Refused e refl)
-quoted-refused at b (c ∷ rest) e = rw e
+quoted-byte : (doubled : Bool) (at b : ℕ) (rest : List ℕ)
+    → quotedRead doubled at (b ∷ rest)
+    ≡ insideRead (classOf b) (beginsWith quote rest) (quotedRead doubled (at + 1) rest) (quotedRead true (at + 2) (drop 1 rest)) (endRead (at + 1) doubled rest)
+unfolding quotedRead beginsWith
+quoted-byte doubled at b [] = no-pair (classOf b) brokenField brokenField brokenField (endRead (at + 1) doubled [])
+quoted-byte doubled at b (c ∷ rest) = refl
 
-other-class : (k : ByteClass) → (k ≡ Quote → ⊥) → isQuote k ≡ false
-other-class Text other = refl
-other-class Quote other = absurd (other refl)
-other-class Comma other = refl
-other-class CarriageReturn other = refl
-other-class LineFeed other = refl
-other-class Refused other = refl
-
-plain-class : (x : ℕ) → isPlain 0x20 0x7E quote x ≡ true → isQuote (classOf x) ≡ false
-plain-class x e = other-class (classOf x) λ p. plain-means 0x20 0x7E quote x e .2 (class-means x p)
+-- ---- at the places of a file
 
 module _ (file : List ℕ) where
-  -- a scan for TEXTDATA goes to the end of a field that is not quoted
-  pub plain-found : (from r : ℕ) → Found file 0x20 0x7E comma from (length file) r → plainRead from (drop from file) ≡ endRead r (drop r file)
-  unfolding plainRead
-  plain-found from r found =
-      all-passed (λ (i : ℕ). plainRead i (drop i file)) from r (found .behind) (λ i p q.
-      let passed = found .passed i p q in
-      rw (bytes-from file i (passed .0), plain-text (getD file i 0) (passed .1)))
-      ∙ go (ltb r (length file)) refl
-    where
-      go : (t : Bool) → ltb r (length file) ≡ t → plainRead r (drop r file) ≡ endRead r (drop r file)
-      go true e =
-          let h = ltb-true r (length file) e in
-          rw (bytes-from file r h, other-text (getD file r 0) (found .stops h))
-      go false e = rw (drop-of-length-le file {i = r} (ltb-false r (length file) e)) (unfold endRead in refl)
-
-  -- a scan for a quote passes bytes inside quotes
-  pub quoted-found : (from r : ℕ) → Found file 0x20 0x7E quote from (length file) r → quotedRead from (drop from file) ≡ quotedRead r (drop r file)
-  quoted-found from r found =
-      all-passed (λ (i : ℕ). quotedRead i (drop i file)) from r (found .behind) λ i p q.
-      let passed = found .passed i p q in
-      let x = getD file i 0 in
-      rw (bytes-from file i (passed .0)) (quoted-on i x (drop (i + 1) file) (plain-class x (passed .1)) (plain-allowed x (passed .1)))
-
   module _ (at : ℕ) (h : at < length file) where
-    pub quoted-passed : (getD file at 0 ≡ quote → ⊥) → (classOf (getD file at 0) ≡ Refused → ⊥)
-        → quotedRead at (drop at file) ≡ quotedRead (at + 1) (drop (at + 1) file)
-    quoted-passed p q =
-        let x = getD file at 0 in
-        rw (bytes-from file at h) (quoted-on at x (drop (at + 1) file) (other-class (classOf x) (λ e. p (class-means x e))) q)
+    pub plain-step : plainRead at (drop at file)
+        ≡ endBy (classOf (getD file at 0)) (beginsWith lineFeed (drop (at + 1) file)) at false (plainRead (at + 1) (drop (at + 1) file))
+    unfolding plainRead
+    plain-step = rw (bytes-from file at h)
 
-    pub quoted-breaks : classOf (getD file at 0) ≡ Refused → quotedRead at (drop at file) ≡ brokenField
-    quoted-breaks e = rw (bytes-from file at h) (quoted-refused at (getD file at 0) (drop (at + 1) file) e)
+    pub plain-text : classOf (getD file at 0) ≡ Text → plainRead at (drop at file) ≡ plainRead (at + 1) (drop (at + 1) file)
+    unfolding endBy
+    plain-text e = plain-step ∙ rw e
 
-    module _ (e : getD file at 0 ≡ quote) where
-      -- a quote that is the last byte
-      pub quoted-last : length file ≤ at + 1 → quotedRead at (drop at file) ≡ endRead (at + 1) (drop (at + 1) file)
-      unfolding quotedRead endRead
-      quoted-last l = rw (bytes-from file at h, e, drop-of-length-le file {i = at + 1} l)
-
-      module _ (k : at + 1 < length file) where
-        -- a closing quote
-        pub quoted-closed : (getD file (at + 1) 0 ≡ quote → ⊥) → quotedRead at (drop at file) ≡ endRead (at + 1) (drop (at + 1) file)
-        unfolding quotedRead insideRead classOf
-        quoted-closed other = rw (bytes-from file at h, bytes-from file (at + 1) k, e, ne-eqb (getD file (at + 1) 0) quote other)
-
-        -- a doubled quote
-        pub quoted-doubled : getD file (at + 1) 0 ≡ quote → quotedRead at (drop at file) ≡ quotedRead (at + 2) (drop (at + 2) file)
-        unfolding quotedRead insideRead classOf
-        quoted-doubled second =
-            let z : at + 1 + 1 ≡ at + 2 = omega arith in
-            rw (bytes-from file at h, bytes-from file (at + 1) k, e, eq-eqb (getD file (at + 1) 0) quote second, z)
-
-  -- what ends a field
-  module _ (end : ℕ) where
-    pub ends-with-file : length file ≤ end → endRead end (drop end file) ≡ withFile end
+    pub end-step : (doubled : Bool) → endRead at doubled (drop at file)
+        ≡ endBy (classOf (getD file at 0)) (beginsWith lineFeed (drop (at + 1) file)) at doubled brokenField
     unfolding endRead
-    ends-with-file l = rw (drop-of-length-le file {i = end} l)
+    end-step doubled = rw (bytes-from file at h)
 
-    module _ (h : end < length file) where
-      pub ends-at-comma : getD file end 0 ≡ comma → endRead end (drop end file) ≡ beforeComma end
-      unfolding endRead
-      ends-at-comma e = rw (bytes-from file end h, e) (go (drop (end + 1) file))
-        where
-          go : (rest : List ℕ) → endRead end (comma ∷ rest) ≡ beforeComma end
-          go [] = refl
-          go (c ∷ rest) = refl
+    pub quoted-step : (doubled : Bool) → quotedRead doubled at (drop at file)
+        ≡ insideRead (classOf (getD file at 0)) (beginsWith quote (drop (at + 1) file)) (quotedRead doubled (at + 1) (drop (at + 1) file))
+        (quotedRead true (at + 2) (drop (at + 2) file)) (endRead (at + 1) doubled (drop (at + 1) file))
+    quoted-step doubled =
+        let z : at + 1 + 1 ≡ at + 2 = omega arith in
+        let behind : drop 1 (drop (at + 1) file) ≡ drop (at + 2) file = drop-drop 1 (at + 1) file ∙ rw z in
+        rw (bytes-from file at h, quoted-byte doubled at (getD file at 0) (drop (at + 1) file), behind)
 
-      pub ends-at-record-end : end + 1 < length file → getD file end 0 ≡ carriageReturn → getD file (end + 1) 0 ≡ lineFeed
-          → endRead end (drop end file) ≡ beforeRecordEnd end
-      unfolding endRead
-      ends-at-record-end k first second = rw (bytes-from file end h, bytes-from file (end + 1) k, first, second)
+    module _ (doubled : Bool) where
+      pub quoted-plain : isPlain true (classOf (getD file at 0)) ≡ true
+          → quotedRead doubled at (drop at file) ≡ quotedRead doubled (at + 1) (drop (at + 1) file)
+      quoted-plain e = quoted-step doubled ∙ inside-plain (classOf (getD file at 0)) e _ _ _ _
 
-      module _ (other : getD file end 0 ≡ comma → ⊥) where
-        pub ends-alone : length file ≤ end + 1 → endRead end (drop end file) ≡ brokenField
-        unfolding endRead
-        ends-alone l = rw (bytes-from file end h, drop-of-length-le file {i = end + 1} l, ne-eqb (getD file end 0) comma other)
+      pub quoted-allowed : (getD file at 0 ≡ quote → ⊥) → (classOf (getD file at 0) ≡ Refused → ⊥)
+          → quotedRead doubled at (drop at file) ≡ quotedRead doubled (at + 1) (drop (at + 1) file)
+      quoted-allowed p q = quoted-step doubled ∙ inside-allowed (classOf (getD file at 0)) (λ e. p (class-means (getD file at 0) e)) q _ _ _ _
 
-        pub ends-nowhere : end + 1 < length file → (getD file end 0 ≡ carriageReturn → getD file (end + 1) 0 ≡ lineFeed → ⊥)
-            → endRead end (drop end file) ≡ brokenField
-        unfolding endRead
-        ends-nowhere k apart =
-            rw (bytes-from file end h, bytes-from file (end + 1) k, ne-eqb (getD file end 0) comma other)
-            (go (eqb (getD file end 0) carriageReturn) (eqb (getD file (end + 1) 0) lineFeed) refl refl)
-          where
-            go : (s t : Bool) → eqb (getD file end 0) carriageReturn ≡ s → eqb (getD file (end + 1) 0) lineFeed ≡ t
-                → cond (s && t) (beforeRecordEnd end) brokenField ≡ brokenField
-            go true true p q = absurd (apart (eqb-true (getD file end 0) carriageReturn p) (eqb-true (getD file (end + 1) 0) lineFeed q))
-            go true false p q = refl
-            go false t p q = refl
+      pub quoted-refused : classOf (getD file at 0) ≡ Refused → quotedRead doubled at (drop at file) ≡ brokenField
+      unfolding insideRead
+      quoted-refused e = quoted-step doubled ∙ rw e
+
+      module _ (e : getD file at 0 ≡ quote) where
+        -- a doubled quote
+        pub quoted-pair : beginsWith quote (drop (at + 1) file) ≡ true
+            → quotedRead doubled at (drop at file) ≡ quotedRead true (at + 2) (drop (at + 2) file)
+        unfolding insideRead classOf
+        quoted-pair next = quoted-step doubled ∙ rw (e, next)
+
+        -- the closing quote
+        pub quoted-closed : beginsWith quote (drop (at + 1) file) ≡ false
+            → quotedRead doubled at (drop at file) ≡ endRead (at + 1) doubled (drop (at + 1) file)
+        unfolding insideRead classOf
+        quoted-closed next = quoted-step doubled ∙ rw (e, next)
+
+  -- a scan for text passes bytes of a field that is not quoted
+  pub plain-found : (from r : ℕ) → Found file false from (length file) r → plainRead from (drop from file) ≡ plainRead r (drop r file)
+  plain-found from r found =
+      all-passed (λ (i : ℕ). plainRead i (drop i file)) from r (found .behind) λ i p q.
+      let passed = found .passed i p q in
+      plain-step i (passed .0) ∙ end-plain (classOf (getD file i 0)) (passed .1) _ _ _ _
+
+  -- and one for text and commas those of a quoted field
+  pub quoted-found : (doubled : Bool) (from r : ℕ) → Found file true from (length file) r
+      → quotedRead doubled from (drop from file) ≡ quotedRead doubled r (drop r file)
+  quoted-found doubled from r found =
+      all-passed (λ (i : ℕ). quotedRead doubled i (drop i file)) from r (found .behind) λ i p q.
+      let passed = found .passed i p q in
+      quoted-plain i (passed .0) doubled (passed .1)
+
+  -- the file ends
+  pub plain-last : (at : ℕ) → length file ≤ at → plainRead at (drop at file) ≡ withFile at false
+  unfolding plainRead
+  plain-last at l = rw (drop-of-length-le file {i = at} l)
+
+  pub end-last : (at : ℕ) (doubled : Bool) → length file ≤ at → endRead at doubled (drop at file) ≡ withFile at doubled
+  unfolding endRead
+  end-last at doubled l = rw (drop-of-length-le file {i = at} l)
+
+  pub quoted-last : (doubled : Bool) (at : ℕ) → length file ≤ at → quotedRead doubled at (drop at file) ≡ brokenField
+  unfolding quotedRead
+  quoted-last doubled at l = rw (drop-of-length-le file {i = at} l)

@@ -17,6 +17,7 @@ use Rattle.csv.specs.Spans.{spanFrom, recordSpan}
 pub record Stands (file : List ℕ) (from : ℕ) (here behind : List ℕ) (span : RecordSpan) : Type 0 where
   pub starts : from ≤ span .end
   pub stops : span .end ≤ length file
+  pub follows : span .end ≤ span .next
   pub inside : span .next ≤ length file
   pub onward : from < length file → from < span .next
   pub text : take (span .end - from) (drop from file) ≡ here
@@ -31,6 +32,7 @@ stands-by file from text none l e =
     record {
       starts = omega arith;
       stops = omega arith;
+      follows = omega arith;
       inside = omega arith;
       onward = λ m. omega arith;
       text = rw (n, e) (take-at text [] (length text) refl);
@@ -44,6 +46,7 @@ stands-by file from text (some rest) l e =
     record {
       starts = omega arith;
       stops = omega arith;
+      follows = omega arith;
       inside = omega arith;
       onward = λ m. omega arith;
       text = rw (n, e) (take-at text (carriageReturn ∷ lineFeed ∷ rest) (length text) refl);

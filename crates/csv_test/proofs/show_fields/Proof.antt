@@ -1,17 +1,12 @@
 -- `csv_test::show_fields` is safe and ends: each field lies in the file, and what follows it begins behind it. The measure is what is left of
 -- the file. Assumes nothing.
-use mathlib.Core.Path.{_≡_, refl, sym, _∙_}
-use mathlib.Core.Bool.{Bool, true, false, true≢false}
-use mathlib.Core.List.{List}
-use Prim.Native.Nat.{ℕ, _≤_, _<_, _-_}
+use mathlib.Core.Path.{_≡_}
+use mathlib.Core.Bool.{true}
+use Prim.Native.Nat.{_≤_, _<_, _-_}
 use native.Mathlib.Omega.{arith}
 use lib.ListN.{length}
 use denote.Ref.{now}
 use borrow.Author.Tests.{not-false}
-use Rattle.csv.specs.declared.FieldRead.{FieldRead}
-use Rattle.csv.specs.Spans.{fieldRead}
-use Rattle.csv.specs.Laws.Bounds.{record-within}
-use Rattle.csv.specs.Laws.FieldReads.{ReadAt, field-told}
 use borrow.Author.Needs.{needs}
 use Rattle.csv_test.proofs.show_fields.Statement.{statement}
 use Rattle.csv_test.proofs.show_fields.Tie as tie
@@ -23,33 +18,15 @@ abbrev μ-loop : tie.MeasureT-loop
 μ-loop file from₀ t7 t8 t9 from = length file - from
 
 -- a field lies in the file, and what follows it begins behind it unless that is the end of the file
-abbrev Within : (file : List ℕ) → (from : ℕ) → FieldRead → Type 0
-Within file from field =
-    (from ≤ field .end) × (field .end ≤ length file) × (field .next ≤ length file)
-    × (field .more ≡ true → from < field .next) × (field .next < length file → from < field .next)
-
-within-by : (file : List ℕ) (from : ℕ) → from ≤ length file → (field : FieldRead) → ReadAt file from field → Within file from field
-within-by file from inside field told = go (field .more) refl
-  where
-    go : (more : Bool) → field .more ≡ more → Within file from field
-    go true p = let i = told .inside p in let b = told .behind p in let e = told .ends in (omega arith, omega arith, omega arith, λ m. omega arith, λ l. omega arith)
-    go false p =
-        let w = record-within file from inside in
-        let s = told .stops p in
-        let n = told .next p in
-        let e = told .ends in
-        (omega arith, omega (arith, w), omega (arith, w), λ m. absurd (true≢false (sym m ∙ p)), λ l. omega (arith, w .3 (omega (arith, w))))
-
-within-read : (file : List ℕ) (from : ℕ) → from ≤ length file → (field : FieldRead) → field ≡ fieldRead file from → field .sound ≡ true
-    → Within file from field
-within-read file from inside field e sound = within-by file from inside field (rw e (field-told file from (rw e at sound)))
-
 within : (c : tie.Else1 Inv-loop μ-loop)
-    → let read = c .before .before in
-    Within (now (read .before .before .before .before .before .args .file)) (read .before .loop .from) (read .field-read .result)
+    → let file = now (c .before .before .before .before .before .before .before .args .file) in
+    let from = c .before .before .before .loop .from in
+    let field = c .before .before .field-read .result in
+    (from ≤ field .end) × (field .end ≤ field .next) × (field .next ≤ length file) × (field .more ≡ true → field .end < field .next)
+    × (from < length file → from < field .next)
 within c =
     let read = c .before .before in
-    within-read _ _ (read .before .loop .inv) _ (read .field-read .ensures) (not-false _ (c .if1 .left))
+    read .field-read .ensures .within (read .before .loop .inv) (not-false _ (c .if1 .left))
 
 slice-aggregate-print : tie.Need-slice-aggregate-print Inv-loop μ-loop
 slice-aggregate-print c = search needs
@@ -103,13 +80,15 @@ returns-2 : tie.Need-returns-2 Inv-loop μ-loop
 returns-2 c = search needs
 
 loop-less : tie.Need-loop-less Inv-loop μ-loop
-loop-less c = omega (arith, within (c .before .before .before .before .before .before .before .before) .4 (c .if3 .left))
+loop-less c =
+    let w = within (c .before .before .before .before .before .before .before .before) in
+    omega (arith, w .4 (omega (arith, w, c .if3 .left)))
 
 loop-again : tie.Need-loop-again Inv-loop μ-loop
 loop-again c = search needs
 
 loop-less-2 : tie.Need-loop-less-2 Inv-loop μ-loop
-loop-less-2 c = let w = within (c .before .before .before .before .before .before .before) in omega (arith, w .2, w .3 (not-false _ (c .if2 .left)))
+loop-less-2 c = let w = within (c .before .before .before .before .before .before .before) in omega (arith, w, w .3 (not-false _ (c .if2 .left)))
 
 loop-again-2 : tie.Need-loop-again-2 Inv-loop μ-loop
 loop-again-2 c = omega (arith, within (c .before .before .before .before .before .before .before))

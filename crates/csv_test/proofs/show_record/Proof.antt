@@ -7,7 +7,6 @@ use native.Mathlib.Omega.{arith}
 use lib.ListN.{length}
 use denote.Ref.{now}
 use borrow.Author.Tests.{not-false}
-use Rattle.csv.specs.Laws.Spans.{field-within}
 use borrow.Author.Needs.{needs}
 use Rattle.csv_test.proofs.show_record.Statement.{statement}
 use Rattle.csv_test.proofs.show_record.Tie as tie
@@ -23,7 +22,7 @@ within : (c : tie.After-field-at Inv-loop μ-loop)
     → let text = now (c .before .before .before .before .before .args .text) in
     let field = c .field-at .result in
     (c .before .loop .from ≤ field .end) × (field .end ≤ length text) × (field .more ≡ true → field .end < length text)
-within c = rw (c .field-at .ensures) (field-within _ _ (c .before .loop .inv))
+within c = c .field-at .ensures .within (c .before .loop .inv)
 
 -- and so does the comma behind it
 comma-within : (c : tie.Else1 Inv-loop μ-loop)

@@ -4,7 +4,6 @@ use Prim.Native.Nat.{_≤_, _<_, _-_}
 use native.Mathlib.Omega.{arith}
 use lib.ListN.{length}
 use denote.Ref.{now}
-use Rattle.csv.specs.Laws.Bounds.{record-within}
 use borrow.Author.Needs.{needs}
 use Rattle.csv_test.proofs.show_records.Statement.{statement}
 use Rattle.csv_test.proofs.show_records.Tie as tie
@@ -20,8 +19,8 @@ within : (c : tie.After-record-at Inv-loop μ-loop)
     → let file = now (c .before .before .before .args .file) in
     let record-span = c .record-at .result in
     (c .before .loop .from ≤ record-span .end) × (record-span .end ≤ record-span .next) × (record-span .next ≤ length file)
-    × (record-span .next < length file → c .before .loop .from < record-span .next)
-within c = rw (c .record-at .ensures) (record-within _ _ (c .before .loop .inv))
+    × (c .before .loop .from < length file → c .before .loop .from < record-span .next)
+within c = c .record-at .ensures .within (c .before .loop .inv)
 
 loop-holds : tie.Need-loop-holds Inv-loop μ-loop
 loop-holds c = search needs
@@ -45,7 +44,7 @@ returns : tie.Need-returns Inv-loop μ-loop
 returns c = search needs
 
 loop-less : tie.Need-loop-less Inv-loop μ-loop
-loop-less c = omega (arith, within (c .before .before .before) .3 (c .if1 .left))
+loop-less c = let w = within (c .before .before .before) in omega (arith, w .3 (omega (arith, w, c .if1 .left)))
 
 loop-again : tie.Need-loop-again Inv-loop μ-loop
 loop-again c = search needs

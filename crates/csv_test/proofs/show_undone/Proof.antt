@@ -1,11 +1,10 @@
 -- `csv_test::show_undone` is safe: a value that is undone fits the space. Assumes nothing.
-use mathlib.Core.Path.{_≡_, sym, _∙_}
+use mathlib.Core.Path.{_≡_, sym}
 use mathlib.Core.List.{_++_}
 use Prim.Native.Nat.{_≤_}
 use native.Mathlib.Omega.{arith}
 use lib.ListN.{length, drop}
 use lib.Seq.{length-take-le, length-front}
-use Rattle.csv.specs.Laws.Bounds.{undone-within}
 use borrow.Author.Needs.{needs}
 use Rattle.csv_test.proofs.show_undone.Statement.{statement}
 use Rattle.csv_test.proofs.show_undone.Tie as tie
@@ -20,8 +19,10 @@ space-back c =
 fits : (c : tie.After-undone) → c .undone .given .0 .0 ≤ 4096
 fits c =
     let undo = c .before .before .before in
-    let within = undone-within _ _ _ (sym (c .undone .given .1) ∙ undo .undo .ensures .0) in
-    omega (arith, within, length-take-le (undo .before .before .before .before .args .room) (undo .before .before .buffer .result) (omega (arith, undo .before .before .before .before .pre, undo .before .before .buffer .ensures)), undo .before .before .before .before .pre)
+    let made = undo .before .before .buffer in
+    let start = undo .before .before .before .before in
+    let lent = length-take-le (start .args .room) (made .result) (omega (arith, start .pre, made .ensures)) in
+    omega (arith, undo .undo .ensures .within _ (c .undone .given .1), lent, start .pre)
 
 buffer-requires : tie.Need-buffer-requires
 buffer-requires c κs = search needs

@@ -1,15 +1,34 @@
 -- `csv_test::show_written` is safe: a field that is written lies in the output. Assumes nothing.
-use mathlib.Core.Path.{sym, _∙_}
-use Prim.Native.Nat.{_≤_}
+use mathlib.Core.Path.{_≡_, sym, ap, _∙_}
+use mathlib.Core.List.{List, [], _∷_}
+use mathlib.Core.Option.{some}
+use Prim.Native.Nat.{ℕ, _≤_}
+use lib.ListN.{length}
 use native.Mathlib.Omega.{arith}
-use Rattle.lines.specs.Laws.Bounds.{wrote-within}
+use Rattle.lines.specs.declared.Wrote.the-variants.{Next}
+use Rattle.lines.specs.Putting.{Output, output, field, plain, put, putAll}
+use Rattle.lines.specs.Laws.Putting.{put-written}
 use borrow.Author.Needs.{needs}
 use Rattle.csv_test.proofs.show_written.Statement.{statement}
 use Rattle.csv_test.proofs.show_written.Tie as tie
 
 -- the field lies in the output
+inside : (value lent : List ℕ) (after : Output) (n : ℕ) → after ≡ putAll (field value ∷ plain [] ∷ []) (output (Next 2) lent) → after .next ≡ Next n
+    → (2 ≤ n) × (n ≤ length lent)
+unfolding putAll
+inside value lent after n made next =
+    let behind = put-written (plain []) (put (field value) (output (Next 2) lent)) n (ap (λ (o : Output). o .next) (sym made) ∙ next) in
+    let text = put-written (field value) (output (Next 2) lent) (behind .from) (behind .starts) in
+    let starts = text .starts in
+    let from : 2 ≡ text .from = cc in
+    let is = behind .is in
+    let empty : behind .bytes ≡ [] = cc in
+    (omega (arith, text .ends, behind .ends), omega (arith, text .ends, text .room, behind .ends, ap length empty))
+
 within : (c : tie.After-wrote) → (2 ≤ c .wrote .given .0 .0) × (c .wrote .given .0 .0 ≤ 24)
-within c = wrote-within _ _ _ _ (sym (c .wrote .given .1) ∙ c .before .before .before .before .before .before .before .before .before .write-field .ensures .0)
+within c =
+    let call = c .before .before .before .before .before .before .before .before .before .write-field in
+    inside _ _ _ _ (call .ensures .puts .all) (c .wrote .given .1)
 
 slice-aggregate-print : tie.Need-slice-aggregate-print
 slice-aggregate-print c = search needs
@@ -22,6 +41,9 @@ show-requires c κs = search needs
 
 slice-aggregate-write-field : tie.Need-slice-aggregate-write-field
 slice-aggregate-write-field c = search needs
+
+slice-aggregate-write-field-2 : tie.Need-slice-aggregate-write-field-2
+slice-aggregate-write-field-2 c = search needs
 
 write-field-requires : tie.Need-write-field-requires
 write-field-requires c κs = search needs
@@ -54,7 +76,7 @@ part-show-back-start : tie.Need-part-show-back-start
 part-show-back-start c = omega (arith, within (c .before .before))
 
 part-show-back-end : tie.Need-part-show-back-end
-part-show-back-end c = omega (arith, within (c .before .before), c .before .before .before .before .before .before .before .before .before .before .before .write-field .kept .1 .0)
+part-show-back-end c = omega (arith, within (c .before .before), c .before .before .before .before .before .before .before .before .before .before .before .write-field .kept .1 .1 .0)
 
 show-back-requires : tie.Need-show-back-requires
 show-back-requires c κs = search needs
@@ -94,6 +116,7 @@ show-written-spec =
     print-requires
     show-requires
     slice-aggregate-write-field
+    slice-aggregate-write-field-2
     write-field-requires
     slice-aggregate-print-2
     print-requires-2

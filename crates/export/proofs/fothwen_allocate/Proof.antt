@@ -2,10 +2,31 @@
 -- Assumes nothing.
 use mathlib.Core.Path.{sym, ap, _∙_}
 use borrow.Author.Needs.{needs}
-use Rattle.export.specs.Laws.{allocated, table-left, spare-left}
+use denote.Ref.{now}
+use Rattle.planning.specs.Numbers.{Call, callOn}
+use Rattle.planning.specs.Promises.{Promised}
+use Rattle.export.specs.Laws.{inMinutes, replied}
+use Rattle.export.specs.Numbers.{modeOf, minutesUnder}
 use Rattle.export.specs.Replies.{replyOf}
 use Rattle.export.proofs.fothwen_allocate.Statement.{statement}
 use Rattle.export.proofs.fothwen_allocate.Tie as tie
+
+abbrev start-of : tie.After-allocate → tie.Start
+start-of c = c .before .before .before .before .before .before .before .before .before .before .before
+
+-- the call as it was made, and what is promised of the minutes handed on
+abbrev call-of : tie.After-allocate → Call
+call-of c =
+    let args = start-of c .args in
+    callOn (modeOf (args .mode)) (args .minutes) (args .allowance) (now (args .watts)) (now (args .fuels)) (now (args .energies)) (now (args .limits))
+    (now (args .table)) (now (args .spare))
+
+handed-on : (c : tie.After-allocate)
+    → Promised (inMinutes (minutesUnder (start-of c .args .mode) (call-of c .minutes)) (call-of c)) (c .allocate .result)
+    (c .allocate .last .1 .1 .1 .1 .1 .1 .1 .0) (c .allocate .last .1 .1 .1 .1 .1 .1 .1 .1 .0)
+handed-on c =
+    let minutes = c .before .before .before in
+    rw (minutes .minutes-under .ensures, minutes .before .mode-of .ensures) at (c .allocate .ensures)
 
 mode-of-requires : tie.Need-mode-of-requires
 mode-of-requires c κs = search needs
@@ -37,13 +58,9 @@ same-length-2 c = search needs
 returns : tie.Need-returns
 unfolding replyOf
 returns c =
-    let called = c .before .before .before .before .before .before .before .before in
-    let told =
-    rw (called .before .before .before .minutes-under .ensures, called .before .before .before .before .mode-of .ensures)
-    at (called .allocate .ensures) in (
-      (c .answered .ensures) ∙ ap replyOf (sym (c .before .before .r .given .1) ∙ told .result ∙ allocated _ _),
-      (told .table ∙ table-left _ _, told .spare ∙ spare-left _ _),
-    )
+    let told = c .before .before in
+    let called = told .before .before .before .before .before .before in
+    replied (start-of called .args .mode) (call-of called) (handed-on called) (c .answered .ensures ∙ ap replyOf (sym (told .r .given .1)))
 
 same-length-3 : tie.Need-same-length-3
 same-length-3 c = search needs
@@ -54,13 +71,9 @@ same-length-4 c = search needs
 returns-2 : tie.Need-returns-2
 unfolding replyOf
 returns-2 c =
-    let called = c .before .before .before .before .before .before .before .before in
-    let told =
-    rw (called .before .before .before .minutes-under .ensures, called .before .before .before .before .mode-of .ensures)
-    at (called .allocate .ensures) in (
-      (c .refused .ensures) ∙ ap replyOf (sym (c .before .before .r2 .given .1) ∙ told .result ∙ allocated _ _),
-      (told .table ∙ table-left _ _, told .spare ∙ spare-left _ _),
-    )
+    let told = c .before .before in
+    let called = told .before .before .before .before .before .before in
+    replied (start-of called .args .mode) (call-of called) (handed-on called) (c .refused .ensures ∙ ap replyOf (sym (told .r2 .given .1)))
 
 pub fothwen-allocate-spec : {M : Type 1} → statement M
 fothwen-allocate-spec =

@@ -33,10 +33,13 @@ same-length-3 c = search needs
 returns : tie.Need-returns
 unfolding fileReplyOf
 returns c =
-    let told = c .before .before .before .before .before .before .before .before .before .before .plan-file .ensures in (
-      (c .answered .ensures) ∙ ap fileReplyOf (sym (c .before .before .r .given .1) ∙ told .0),
-      (told .1 .0, (told .1 .1 .0, told .1 .1 .1 .0)),
-    )
+    let told = c .before .before in
+    let called = told .before .before .before .before .before .before .before .before in
+    record {
+      answer = called .plan-file .result;
+      reply = c .answered .ensures ∙ ap fileReplyOf (sym (told .r .given .1));
+      promised = called .plan-file .ensures;
+    }
 
 same-length-4 : tie.Need-same-length-4
 same-length-4 c = search needs
@@ -50,10 +53,13 @@ same-length-6 c = search needs
 returns-2 : tie.Need-returns-2
 unfolding fileReplyOf
 returns-2 c =
-    let told = c .before .before .before .before .before .before .before .before .before .before .plan-file .ensures in (
-      (c .refused .ensures) ∙ ap fileReplyOf (sym (c .before .before .r2 .given .1) ∙ told .0),
-      (told .1 .0, (told .1 .1 .0, told .1 .1 .1 .0)),
-    )
+    let told = c .before .before in
+    let called = told .before .before .before .before .before .before .before .before in
+    record {
+      answer = called .plan-file .result;
+      reply = c .refused .ensures ∙ ap fileReplyOf (sym (told .r2 .given .1));
+      promised = called .plan-file .ensures;
+    }
 
 pub fothwen-plan-file-spec : {M : Type 1} → statement M
 fothwen-plan-file-spec =

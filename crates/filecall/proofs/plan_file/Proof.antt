@@ -1,17 +1,28 @@
--- `plan_file` meets its contract: by what the file is read as, and by the lengths of what is lent. That the clauses follow from the definitions
+-- `plan_file` meets its contract: by what the file is read as, and by the lengths of what is lent. That the promises follow from the definitions
 -- is in planfile's Laws/Promises. Assumes nothing.
+use mathlib.Core.Path.{_≡_}
 use mathlib.Core.Logic.{⊎-elim}
-use borrow.Author.Tests.{eqb-true, eqb-false}
+use borrow.Author.Tests.{eqb-true, eqb-false, not-true, not-false}
 use Rattle.planfile.specs.FileCall.{FileCall}
-use Rattle.planfile.specs.Reading.{fault}
+use Rattle.planfile.specs.Reading.{accepted, fault, readFile}
 use Rattle.filecall.specs.Calls.{callWith}
-use Rattle.filecall.specs.Laws.FileCall.{read-refused, read-accepted, read-usable, promised, promised-refusal, file-refused, table-refused, spare-refused, call-space}
-use Rattle.filecall.specs.Laws.Parts.{not-true, not-false}
+use Rattle.planreader.specs.Laws.Plans.{read-refused, read-accepted, read-usable}
+use Rattle.planreader.specs.Plans.{planBy}
+use Rattle.filecall.specs.Laws.FileCall.{refusal-promised, handed-promised, file-refused, table-refused, spare-refused, call-space}
 use Rattle.filecall.proofs.plan_file.Statement.{statement}
 use Rattle.filecall.proofs.plan_file.Tie as tie
 
-abbrev call-of : tie.Start → FileCall
-call-of start = callWith (start .args .file .now) (start .args .table .now) (start .args .spare .now) (start .args .output .now)
+abbrev start-of : tie.After-read → tie.Start
+start-of c = c .before .before .before .before .before
+
+abbrev call-of : tie.After-read → FileCall
+call-of c =
+    let args = start-of c .args in
+    callWith (args .file .now) (args .table .now) (args .spare .now) (args .output .now)
+
+-- the file is read as the plan that is handed on
+read-as : (c : tie.After-enum-told) → let read = c .before .before in readFile (call-of read .file) ≡ accepted (planBy (read .read .result .plan))
+read-as c = read-accepted _ _ (c .before .before .read .ensures) (c .enum-told .given .1)
 
 read-requires : tie.Need-read-requires
 read-requires c κs = tt
@@ -25,22 +36,25 @@ enum-told c = c .match .keys2
 returns : tie.Need-returns
 unfolding fault
 returns c =
-    let call = call-of (c .before .before .before .before .before .before .before .before) in
-    let read = read-accepted _ _ (c .before .before .before .read .ensures) (c .before .enum-told .given .1) .0 in
+    let call = call-of (c .before .before .before) in
+    let read = read-as (c .before) in
     ⊎-elim
-    (λ w. promised-refusal call _ (table-refused call _ read (w .taken)))
-    (λ w. promised-refusal call _ (spare-refused call _ read (w .0 .left) (eqb-false _ _ (not-true _ (w .1 .taken)))))
+    (λ w. refusal-promised call _ (table-refused call _ read (w .taken)))
+    (λ w. refusal-promised call _ (spare-refused call _ read (w .0 .left) (eqb-false _ _ (not-true _ (w .1 .taken)))))
     (c .if1 .came)
 
 answer-requires : tie.Need-answer-requires
 answer-requires c κs =
-    let read = c .before .before .before .before .before .before .before .read in
-    (read-usable _ (read .result) (read .ensures) (c .before .before .before .before .before .enum-told .given .1), c .before .before .before .before .if1 .left, eqb-true _ _ (not-false _ (c .before .before .before .if2 .left)))
+    let spare = c .before .before .before in
+    let told = spare .before .before in
+    let read = told .before .before .read in
+    (read-usable _ (read .result) (read .ensures) (told .enum-told .given .1), spare .before .if1 .left, eqb-true _ _ (not-false _ (spare .if2 .left)))
 
 returns-2 : tie.Need-returns-2
 returns-2 c =
-    let call = call-of (c .before .before .before .before .before .before .before .before) in
-    promised-refusal call _ (file-refused call _ (read-refused _ _ _ (c .before .before .before .read .ensures) (c .before .verdict .given .1)))
+    let read = c .before .before .before in
+    let call = call-of read in
+    refusal-promised call _ (file-refused call _ (read-refused _ _ (read .read .ensures) _ (c .before .verdict .given .1)))
 
 same-length : tie.Need-same-length
 same-length c = c .before .before .before .before .before .table .given
@@ -53,10 +67,12 @@ same-length-3 c = c .before .output .given
 
 returns-3 : tie.Need-returns-3
 returns-3 c =
-    let call = call-of (c .before .before .before .before .before .before .before .before .before .before .before .before .before .before .before .before .before .before .before) in
-    let answer = c .before .before .before .before .before .before .answer in
-    let read = read-accepted _ _ (c .before .before .before .before .before .before .before .before .before .before .before .before .before .before .read .ensures) (c .before .before .before .before .before .before .before .before .before .before .before .before .enum-told .given .1) .0 in
-    promised call _ (call-space call _ read (c .before .before .before .before .before .before .before .before .before .before .before .if1 .left) (eqb-true _ _ (not-false _ (c .before .before .before .before .before .before .before .before .before .before .if2 .left)))) (answer .ensures .0) (answer .ensures .1 .0) (answer .ensures .1 .1 .0) (answer .ensures .1 .1 .1)
+    let answered = c .before .before .before .before .before .before in
+    let spare = answered .before .before .before .before in
+    let told = spare .before .before in
+    let call = call-of (told .before .before) in
+    let space = call-space call _ (read-as told) (spare .before .if1 .left) (eqb-true _ _ (not-false _ (spare .if2 .left))) in
+    handed-promised call _ space (answered .answer .ensures)
 
 pub plan-file-spec : {M : Type 1} → statement M
 plan-file-spec =

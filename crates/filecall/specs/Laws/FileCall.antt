@@ -1,8 +1,7 @@
 -- The call with a file by what its file is read as and by the lengths of what is lent. Assumes nothing.
-use mathlib.Core.Path.{_≡_, refl, ap}
+use mathlib.Core.Path.{_≡_, refl}
 use mathlib.Core.List.{List}
 use Prim.Native.Nat.{ℕ}
-use native.Mathlib.Omega.{arith}
 use lib.ListN.{length}
 use borrow.Author.Tests.{eq-eqb, ne-eqb}
 use Rattle.planning.specs.declared.Fault.the-variants.{Space}
@@ -14,52 +13,29 @@ use Rattle.planfile.specs.declared.FileAnswer.{FileAnswer}
 use Rattle.planfile.specs.declared.FileAnswer.the-variants.{Refused}
 use Rattle.planfile.specs.FileCall.{FileCall, printed, readCall, answerBy, answerToFile, onExit, fileTable, fileSpare, fileOutput}
 use Rattle.planfile.specs.FilePlan.{FilePlan, unnamed}
-use Rattle.planfile.specs.Laws.Holding.{accepted-holds}
-use Rattle.planfile.specs.Laws.Promises.{Promised, every-promise}
+use Rattle.planfile.specs.Laws.Promises.{promised}
+use Rattle.planfile.specs.Promises.{FilePromised}
 use Rattle.planfile.specs.Reading.{Read, refused, accepted, _>>=_, fault, require, readFile}
-use Rattle.filecall.specs.declared.reading.Reading.{Reading}
-use Rattle.filecall.specs.declared.reading.Verdict.the-variants.{Accepted}
-use Rattle.filecall.specs.declared.reading.Verdict.the-variants as verdict
-use Rattle.filecall.specs.HandOver.{UsablePlan, planBy, withSpace}
-use Rattle.filecall.specs.PlanRead.{IsPlan, ReadBy}
+use Rattle.filecall.specs.HandOver.{withSpace, Lent, lentLists, HandedOver}
 
--- what a reading by value says of the file
-pub read-refused : (m : Read FilePlan) (r : Reading) (refusal : Refusal) → ReadBy m r → r .verdict ≡ verdict.Refused refusal → m ≡ refused refusal
-unfolding ReadBy
-read-refused (refused other) r refusal h e = let same : other ≡ refusal = cc in ap refused same
-read-refused (accepted f) r refusal h e = let z : _≡_ {A = ℕ} 0 1 = cc in absurd (omega arith)
-
-pub read-accepted : (m : Read FilePlan) (r : Reading) → ReadBy m r → r .verdict ≡ Accepted → (m ≡ accepted (planBy (r .plan))) × ((f : FilePlan) × IsPlan f (r .plan))
-unfolding ReadBy
-read-accepted (refused refusal) r h e = let z : _≡_ {A = ℕ} 0 1 = cc in absurd (omega arith)
-read-accepted (accepted f) r h e = (ap accepted (h .1 .plan), (f, h .1))
-
--- a plan that was read is one to be planned and printed
-pub read-usable : (file : List ℕ) (r : Reading) → ReadBy (readFile file) r → r .verdict ≡ Accepted → UsablePlan (r .plan)
-read-usable file r h e =
-    let (reads, (f, is)) = read-accepted (readFile file) r h e in
-    let holds = accepted-holds file (planBy (r .plan)) reads in
-    record {
-      engines = is .engines;
-      deliveries = is .deliveries;
-      inRange = holds .inRange;
-      enginesNamed = holds .enginesNamed;
-      deliveriesNamed = holds .deliveriesNamed;
-    }
-
--- the clauses hold of what the call's reading comes to
-module _ (call : FileCall) (m : Read FilePlan) (reads : readCall call ≡ m) {r : FileAnswer} {table spare output : List ℕ} where
-  pub promised : r ≡ answerBy m → table ≡ onExit m (call .table) (λ f. tableAfter (unnamed f) (call .table))
-      → spare ≡ onExit m (call .spare) (λ f. sparesAfter (unnamed f) (call .spare)) → output ≡ onExit m (call .output) (λ f. overFront (printed f) (call .output))
-      → Promised call r table spare output
-  unfolding answerToFile fileTable fileSpare fileOutput
-  promised a t s o = every-promise call (rw reads a) (rw reads t) (rw reads s) (rw reads o)
+-- the promises hold of what the call's reading comes to
+pub read-promised : (call : FileCall) (m : Read FilePlan) → readCall call ≡ m → {r : FileAnswer} {table spare output : List ℕ} → r ≡ answerBy m
+    → table ≡ onExit m (call .table) (λ f. tableAfter (unnamed f) (call .table)) → spare ≡ onExit m (call .spare) (λ f. sparesAfter (unnamed f) (call .spare))
+    → output ≡ onExit m (call .output) (λ f. overFront (printed f) (call .output)) → FilePromised call r table spare output
+unfolding answerToFile fileTable fileSpare fileOutput
+read-promised call m reads a t s o = promised call (rw reads a) (rw reads t) (rw reads s) (rw reads o)
 
 -- a call that is refused
-pub promised-refusal : (call : FileCall) (refusal : Refusal) → readCall call ≡ refused refusal
-    → Promised call (Refused refusal) (call .table) (call .spare) (call .output)
+pub refusal-promised : (call : FileCall) (refusal : Refusal) → readCall call ≡ refused refusal
+    → FilePromised call (Refused refusal) (call .table) (call .spare) (call .output)
 unfolding answerBy onExit
-promised-refusal call refusal e = promised call (refused refusal) e refl refl refl refl
+refusal-promised call refusal e = read-promised call (refused refusal) e refl refl refl refl
+
+-- a call that is handed over
+pub handed-promised : (call : FileCall) (f : FilePlan) → readCall call ≡ withSpace f (call .output) → {r : FileAnswer} {after : Lent}
+    → HandedOver f r (lentLists (call .table) (call .spare) (call .output)) after
+    → FilePromised call r (after .table) (after .spare) (after .output)
+handed-promised call f reads over = read-promised call (withSpace f (call .output)) reads (over .result) (over .table) (over .spare) (over .output)
 
 module _ (call : FileCall) where
   -- a file that is refused

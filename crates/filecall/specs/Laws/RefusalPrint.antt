@@ -1,95 +1,70 @@
--- The line of a refusal, and the print of a call with it. Assumes nothing.
-use mathlib.Core.Path.{_≡_, refl, ap, _∙_}
-use mathlib.Core.Bool.{true, false}
-use mathlib.Core.List.{List, [], _∷_, append-nil}
-use Prim.Native.Nat.{ℕ, _+_, _≤_, _<_}
+-- The line of a refusal: how long it may be, and that it is put where it fits. Assumes nothing.
+use mathlib.Core.Path.{_≡_, ap, _∙_}
+use mathlib.Core.List.{List, [], _∷_}
+use Prim.Native.Nat.{ℕ, _+_, _*_, _^_, _≤_, _<_}
 use native.Mathlib.Omega.{arith}
-use lib.Dec.{leb}
-use lib.ListN.{length}
-use borrow.Author.Tests.{le-leb, lt-leb}
-use Rattle.rfc4180.specs.Laws.Writer.{length-written}
+use lib.ListN.{length, take, length-append}
+use lib.Seq.{take-append-seam}
 use Rattle.rfc4180.specs.Text.{ascii}
 use Rattle.rfc4180.specs.Writer.{written, writtenLine, writtenFile}
-use Rattle.planning.specs.declared.Answer.{Answer}
-use Rattle.planning.specs.declared.Fault.{Fault}
-use Rattle.planning.specs.declared.Fault.the-variants.{Size, Grammar, Fields, Kind, Name, Value, Count, NoEngine, Space}
+use Rattle.lines.specs.declared.Wrote.{Wrote}
+use Rattle.lines.specs.declared.Wrote.the-variants.{Next}
+use Rattle.lines.specs.Laws.Digits.{mostDigits}
+use Rattle.lines.specs.Laws.Front.{lines-at-front, bytes-at-front, bytes-kept}
+use Rattle.lines.specs.Lines.{PutLines}
+use Rattle.lines.specs.Putting.{plain, Output, output, Puts}
 use Rattle.planning.specs.declared.Refusal.{Refusal}
-use Rattle.planning.specs.Tables.{overFront}
 use Rattle.planning.specs.Refusals.{faultNumber}
-use Rattle.planfile.specs.declared.FileAnswer.{FileAnswer}
-use Rattle.planfile.specs.declared.FileAnswer.the-variants.{Printed, Refused}
-use Rattle.planfile.specs.FileCall.{FileCall, answerToFile, fileOutput, printLengthBy, printLength, printOutputBy, printOutput}
-use Rattle.planfile.specs.Laws.Decimals.{decimal-plain, decimal-length-one}
-use Rattle.planfile.specs.Laws.PrintLength.{line-length}
+use Rattle.planning.specs.Tables.{overFront}
+use Rattle.planfile.specs.Laws.Print.{refusal-writable}
+use Rattle.planfile.specs.Laws.PrintLength.{number-length, line-length}
+use Rattle.planfile.specs.Laws.Program.{refusal-fits, refusal-long}
 use Rattle.planfile.specs.Numerals.{decimal, decimalWithin}
-use Rattle.planfile.specs.Print.{refusalPrint}
+use Rattle.planfile.specs.Print.{refusalLine, refusalPrint}
+use Rattle.planfile.specs.Promises.{RefusalWritten}
 
--- line 1 of any other print has the same form
-pub refusal-line : (refusal : Refusal)
-    → refusalPrint refusal ≡ writtenLine (ascii "refused" ∷ decimal (faultNumber (refusal .fault)) ∷ decimal (refusal .place) ∷ decimal 0 ∷ [])
-unfolding refusalPrint writtenFile ascii decimal decimalWithin
-refusal-line refusal = append-nil _
+-- no line of a refusal is longer: its word, two numbers, 0, three commas, CR and LF
+abbrev pub longestRefusal : ℕ
+longestRefusal = 13 + 2 * mostDigits
 
-one-digit : (fault : Fault) → length (decimal (faultNumber fault)) ≡ 1
-one-digit fault = decimal-length-one (faultNumber fault) (go fault)
-  where
-    go : (fault : Fault) → faultNumber fault < 10
-    go Size = unfold faultNumber in omega arith
-    go Grammar = unfold faultNumber in omega arith
-    go Fields = unfold faultNumber in omega arith
-    go Kind = unfold faultNumber in omega arith
-    go Name = unfold faultNumber in omega arith
-    go Value = unfold faultNumber in omega arith
-    go Count = unfold faultNumber in omega arith
-    go NoEngine = unfold faultNumber in omega arith
-    go Space = unfold faultNumber in omega arith
-
-digits-written : (n : ℕ) → length (written (decimal n)) ≡ length (decimal n)
-digits-written n = length-written (decimal n) ∙ rw (decimal-plain n)
-
--- the word, the number's digit, the place and 0, three commas, CR and LF
-pub refusal-length : (refusal : Refusal) → length (refusalPrint refusal) ≡ 14 + length (decimal (refusal .place))
-refusal-length refusal =
-    ap length (refusal-line refusal)
-    ∙ omega (
+refusal-length : (refusal : Refusal) → faultNumber (refusal .fault) < 2 ^ 64 → refusal .place < 2 ^ 64 → length (refusalPrint refusal) ≤ longestRefusal
+unfolding refusalPrint writtenFile written ascii
+refusal-length refusal number place =
+    omega (
       arith,
-      line-length (ascii "refused") (decimal (faultNumber (refusal .fault))) (decimal (refusal .place)) (decimal 0),
-      word,
-      digits-written (faultNumber (refusal .fault)),
-      digits-written (refusal .place),
-      digits-written 0,
-      one-digit (refusal .fault),
-      decimal-length-one 0 (omega arith),
+      length-append (writtenLine (refusalLine refusal)) [],
+      line-length (ascii "refused") (decimal (faultNumber (refusal .fault))) (decimal (refusal .place)) (ascii "0"),
+      number-length (faultNumber (refusal .fault)) mostDigits (omega arith) (omega arith),
+      number-length (refusal .place) mostDigits (omega arith) (omega arith),
     )
-  where
-    word : length (written (ascii "refused")) ≡ 7
-    word = unfold written ascii in refl
 
--- a refusal that has space, and one that has none
-module _ (refusal : Refusal) (out : List ℕ) where
-  pub refusal-fits : 14 + length (decimal (refusal .place)) ≤ length out
-      → (length (refusalPrint refusal) ≡ printLengthBy (Refused refusal) (length out)) × (overFront (refusalPrint refusal) out ≡ printOutputBy (Refused refusal) out)
-  unfolding printLengthBy printOutputBy
-  refusal-fits l =
-      let enough : leb (length (refusalPrint refusal)) (length out) ≡ true =
-      le-leb (length (refusalPrint refusal)) (length out) (omega (arith, refusal-length refusal)) in
-      (rw enough, rw enough)
+-- made of its parts, the line stands at the front of an output that holds every one
+pub refusal-made : (refusal : Refusal) {number : ℕ} {lent out : List ℕ} {next : Wrote} → number ≡ faultNumber (refusal .fault) → number < 2 ^ 64
+    → refusal .place < 2 ^ 64 → longestRefusal ≤ length lent
+    → PutLines ((ascii "refused" ∷ decimal number ∷ decimal (refusal .place) ∷ decimal 0 ∷ []) ∷ []) (output (Next 0) lent) (output next out)
+    → (next ≡ Next (length (refusalPrint refusal))) × (take (length (refusalPrint refusal)) out ≡ refusalPrint refusal) × (length (refusalPrint refusal) ≤ longestRefusal)
+unfolding refusalPrint decimal decimalWithin ascii
+refusal-made refusal number fits place room put =
+    let short = refusal-length refusal (rw number at fits) place in
+    let made = lines-at-front (refusal-writable refusal) (omega (arith, short)) (rw number at put) in (
+      ap (λ (o : Output). o .next) made,
+      ap (λ (o : Output). take (length (refusalPrint refusal)) (o .bytes)) made ∙ take-append-seam (refusalPrint refusal) _,
+      short,
+    )
 
-  pub refusal-long : length out < 14 + length (decimal (refusal .place)) → (0 ≡ printLengthBy (Refused refusal) (length out)) × (out ≡ printOutputBy (Refused refusal) out)
-  unfolding printLengthBy printOutputBy
-  refusal-long l =
-      let short : leb (length (refusalPrint refusal)) (length out) ≡ false =
-      lt-leb (length (refusalPrint refusal)) (length out) (omega (arith, refusal-length refusal)) in
-      (rw short, rw short)
+-- the line put where it fits, and kept out where it does not
+module _ (refusal : Refusal) {bytes lent out : List ℕ} {next : Wrote} (is : bytes ≡ refusalPrint refusal)
+    (put : Puts (plain bytes ∷ []) (output (Next 0) lent) (output next out)) where
+  same-put : Puts (plain (refusalPrint refusal) ∷ []) (output (Next 0) lent) (output next out)
+  same-put = rw is at put
 
--- the print of a call by its answer
-module _ (call : FileCall) {r : FileAnswer} {out : List ℕ} (answer : r ≡ answerToFile call) (output : out ≡ fileOutput call) where
-  pub call-answered : {a : Answer} {n : ℕ} → r ≡ Printed a n → (n ≡ printLength call) × (out ≡ printOutput call)
-  unfolding printLength printOutput printLengthBy printOutputBy
-  call-answered e = (rw (← answer, e), output ∙ rw (← answer, e))
+  pub refusal-put : {to : ℕ} → next ≡ Next to → RefusalWritten refusal lent to out
+  unfolding overFront
+  refusal-put e =
+      let (room, ends, stands) = bytes-at-front same-put e in
+      rw (ends, stands) (refusal-fits refusal room)
 
-  pub call-turned-down : {refusal : Refusal} → r ≡ Refused refusal → out ≡ call .output
-      → {n : ℕ} {out′ : List ℕ} → n ≡ printLengthBy (Refused refusal) (length out) → out′ ≡ printOutputBy (Refused refusal) out
-      → (n ≡ printLength call) × (out′ ≡ printOutput call)
-  unfolding printLength printOutput
-  call-turned-down e same p q = (p ∙ rw (← answer, e, same), q ∙ rw (← answer, e, output))
+  pub refusal-kept : ((to : ℕ) → next ≡ Next to → ⊥) → RefusalWritten refusal lent 0 out
+  refusal-kept none =
+      let (over, kept) = bytes-kept same-put none in
+      rw kept (refusal-long refusal over)

@@ -75,16 +75,6 @@ module _ (value : List ℕ) (i : ℕ) (within : i < length value) where
   unfolding doubled
   doubled-other n = rw (bytes-from value i within, ne-eqb (getD value i 0) quote n)
 
--- a value holds at most as many quotes as bytes
-pub quote-count-le : (value : List ℕ) → quoteCount value ≤ length value
-unfolding quoteCount
-quote-count-le [] = omega arith
-quote-count-le (b ∷ rest) = go (eqb b quote) (quote-count-le rest)
-  where
-    go : (t : Bool) → quoteCount rest ≤ length rest → cond t (suc (quoteCount rest)) (quoteCount rest) ≤ suc (length rest)
-    go true h = omega arith
-    go false h = omega arith
-
 -- a value that needs quotes, written
 pub written-quoted : (value : List ℕ) → needsQuotes value ≡ true → written value ≡ quote ∷ (doubled value ++ quote ∷ [])
 unfolding written

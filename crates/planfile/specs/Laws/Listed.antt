@@ -1,19 +1,18 @@
 -- Engines and deliveries alike: what a list of named items has to keep, and that one item more is read exactly where the list with
 -- it keeps it too.
 -- Assumes nothing.
-use mathlib.Core.Path.{_≡_, refl, sym, ap}
+use mathlib.Core.Path.{_≡_, refl, sym, subst}
 use mathlib.Core.Logic.{_↔_, Iff·rfl, Iff·trans}
 use Prim.Native.Nat.{ℕ, _≤_, _<_}
 use native.Mathlib.Omega.{arith}
 use mathlib.Core.Bool.{and-eq-true-iff}
-use mathlib.Core.List.{List, [], _∷_, _++_, map}
-use lib.ListN.{length, length-append}
+use mathlib.Core.List.{List, [], _∷_, _++_, map, map-append}
+use lib.ListN.{length, length-append, length-map}
 use Rattle.planning.specs.Plan.{All, Within}
 use Rattle.planning.specs.Laws.Numbers.{ltb-iff}
-use Rattle.planfile.specs.FilePlan.{FilePlan}
 use Rattle.planfile.specs.Holding.{SoundName, Unlike}
 use Rattle.planfile.specs.Numerals.{Numeral}
-use Rattle.planfile.specs.Reading.{accepted, FourFields, readItem}
+use Rattle.planfile.specs.Reading.{accepted, FourFields, Figures, readItem}
 use Rattle.planfile.specs.Laws.Tests.{sound-name-iff, unused-iff, accepted-iff, bind-iff, require-iff, read-number-iff}
 
 -- ---- lists one behind the other
@@ -31,10 +30,6 @@ all-append P (x ∷ xs) ys =
 pub all-each : {A : Type 0} {P Q : A → Type 0} → ((x : A) → P x → Q x) → (xs : List A) → All P xs → All Q xs
 all-each follows [] all = tt
 all-each follows (x ∷ xs) all = (follows x (all .0), all-each follows xs (all .1))
-
-map-append : {A B : Type 0} (h : A → B) (xs ys : List A) → map h (xs ++ ys) ≡ map h xs ++ map h ys
-map-append h [] ys = refl
-map-append h (x ∷ xs) ys = ap (λ (l : List _). h x ∷ l) (map-append h xs ys)
 
 all-mapped : {A B : Type 0} (P : B → Type 0) (h : A → B) (xs ys : List A) → All P (map h (xs ++ ys)) ↔ (All P (map h xs) × All P (map h ys))
 all-mapped P h xs ys = rw (map-append h xs ys) (all-append P (map h xs) (map h ys))
@@ -69,13 +64,14 @@ record Joins {A B : Type 0} (name : A → List ℕ) (content : A → B) (Fits : 
   unused : All (λ other. name item ≡ other → ⊥) (map name items)
 
 -- an item is accepted where there is room, the name is sound and not used, and two numerals stand for numbers in range
-read-item-iff : {A : Type 0} (name : A → List ℕ) (most low high low′ high′ : ℕ) (items : List A) (r : ℕ) (x : FourFields)
-    (after : ℕ → ℕ → FilePlan) (g : FilePlan) → (readItem name most low high low′ high′ items r x after ≡ accepted g)
-    ↔ ((length items < most)
-    × ((SoundName (x .second) × All (λ other. x .second ≡ other → ⊥) (map name items))
-    × ((n : ℕ) × (Numeral (x .third) n × Within low high n) × ((m : ℕ) × (Numeral (x .fourth) m × Within low′ high′ m) × (after n m ≡ g)))))
+pub read-item-iff : (most low high low′ high′ : ℕ) (names : List (List ℕ)) (r : ℕ) (x : FourFields) (v : Figures)
+    → (readItem most low high low′ high′ names r x ≡ accepted v)
+    ↔ ((length names < most)
+    × ((SoundName (x .second) × All (λ other. x .second ≡ other → ⊥) names)
+    × ((n : ℕ) × (Numeral (x .third) n × Within low high n)
+    × ((m : ℕ) × (Numeral (x .fourth) m × Within low′ high′ m) × (_≡_ {A = Figures} (record { first = n; second = m }) v)))))
 unfolding readItem
-read-item-iff name most low high low′ high′ items r x after g =
+read-item-iff most low high low′ high′ names r x v =
     simp (require-iff, ltb-iff, and-eq-true-iff, sound-name-iff, unused-iff, bind-iff, read-number-iff, accepted-iff) Iff·rfl
 
 module _ {A B : Type 0} (name : A → List ℕ) (content : A → B) (Fits : B → Type 0) (most : ℕ) where
@@ -118,17 +114,22 @@ module _ {A B : Type 0} (name : A → List ℕ) (content : A → B) (Fits : B �
   module _ (low high low′ high′ : ℕ) (make : List ℕ → ℕ → ℕ → A) (made : (text : List ℕ) (n m : ℕ) → name (make text n m) ≡ text)
       (fits : (text : List ℕ) (n m : ℕ) → Fits (content (make text n m)) ↔ (Within low high n × Within low′ high′ m)) where
     -- behind items that keep all this, an item is read where its numbers are numerals and the items with it keep it
-    pub item-iff : (items : List A) (r : ℕ) (x : FourFields) (after : ℕ → ℕ → FilePlan) (g : FilePlan) → Listed name content Fits most items
-        → (readItem name most low high low′ high′ items r x after ≡ accepted g)
-        ↔ ((n m : ℕ) × Numeral (x .third) n × Numeral (x .fourth) m × Listed name content Fits most (items ++ make (x .second) n m ∷ []) × (after n m ≡ g))
-    item-iff items r x after g l =
-        Iff·trans (read-item-iff name most low high low′ high′ items r x after g) (
-          λ (room, ((sound, unlike), (n, (p, v), (m, (q, w), found)))).
+    pub item-iff : (items : List A) (r : ℕ) (x : FourFields) (v : Figures) → Listed name content Fits most items
+        → (readItem most low high low′ high′ (map name items) r x ≡ accepted v)
+        ↔ (Numeral (x .third) (v .first) × Numeral (x .fourth) (v .second)
+        × Listed name content Fits most (items ++ make (x .second) (v .first) (v .second) ∷ []))
+    item-iff items r x v l =
+        Iff·trans (read-item-iff most low high low′ high′ (map name items) r x v) (
+          λ (room, ((sound, unlike), (n, (p, s), (m, (q, t), found)))).
               let joins : Joins name content Fits most items (make (x .second) n m) =
-              record { room = room; inRange = fits (x .second) n m .1 (v, w); named = rw made sound; unused = rw made unlike } in
-              (n, m, p, q, listed-more items (make (x .second) n m) .1 (l, joins), found),
-          λ (n, m, p, q, more, found).
-              let joins = listed-more items (make (x .second) n m) .0 more .1 in
-              let (v, w) = fits (x .second) n m .0 (joins .inRange) in
-              (joins .room, ((rw made at (joins .named), rw made at (joins .unused)), (n, (p, v), (m, (q, w), found)))),
+              record { room = rw length-map at room; inRange = fits (x .second) n m .1 (s, t); named = rw made sound; unused = rw made unlike } in
+              subst
+              (λ (v : Figures).
+              Numeral (x .third) (v .first) × Numeral (x .fourth) (v .second)
+              × Listed name content Fits most (items ++ make (x .second) (v .first) (v .second) ∷ []))
+              found (p, q, listed-more items (make (x .second) n m) .1 (l, joins)),
+          λ (p, q, more).
+              let joins = listed-more items (make (x .second) (v .first) (v .second)) .0 more .1 in
+              let (s, t) = fits (x .second) (v .first) (v .second) .0 (joins .inRange) in
+              (rw length-map (joins .room), ((rw made at (joins .named), rw made at (joins .unused)), (v .first, (p, s), (v .second, (q, t), refl)))),
         )

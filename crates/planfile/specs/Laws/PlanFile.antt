@@ -2,10 +2,10 @@
 -- engines and no two deliveries are named alike.
 -- Assumes nothing.
 use mathlib.Core.Path.{_≡_, refl}
-use Prim.Native.Nat.{ℕ, _≤_}
+use Prim.Native.Nat.{ℕ, _+_, _^_, _≤_, _<_}
 use native.Mathlib.Omega.{arith}
 use mathlib.Core.Bool.{true}
-use mathlib.Core.List.{List, [], _∷_, _++_, map}
+use mathlib.Core.List.{List, [], _∷_, _++_, map, append-nil, append-assoc}
 use lib.ListN.{length, length-append, length-map}
 use Rattle.rfc4180.specs.Grammar.{File}
 use Rattle.rfc4180.specs.Laws.Writer.{file-written}
@@ -13,10 +13,11 @@ use Rattle.rfc4180.specs.Text.{ascii}
 use Rattle.rfc4180.specs.Writer.{written, writtenLine, writtenFile, writable, writableRecord}
 use Rattle.planning.specs.declared.Mode.{Mode}
 use Rattle.planning.specs.declared.Mode.the-variants.{Fixed, Shortest}
+use Rattle.planning.specs.Bounds.{mostEngines, mostDeliveries}
 use Rattle.planning.specs.Plan.{Engine, Delivery, All, Within, InRange, EngineInRange, DeliveryInRange}
 use Rattle.planfile.specs.Bounds.{mostBytes}
 use Rattle.planfile.specs.FilePlan.{FilePlan, NamedEngine, NamedDelivery, unnamed, engineNames, deliveryNames}
-use Rattle.planfile.specs.Holding.{SoundName, Unlike, Holds, modeWord, plan-record, Mixture, mixture-end, mixture-engine, mixture-delivery}
+use Rattle.planfile.specs.Holding.{SoundName, Unlike, Holds, modeWord, plan-record, Mixture, mixture-none, mixture-engine, mixture-delivery}
 use Rattle.planfile.specs.Laws.Decimals.{decimal-writable, decimal-read}
 use Rattle.planfile.specs.Laws.Holding.{engine-count, delivery-count, holds-accepted}
 use Rattle.planfile.specs.Laws.Listed.{all-each, all-append}
@@ -42,8 +43,8 @@ record Sound (line : Line) : Type 0 where
 name-fits : {name : List ℕ} → SoundName name → Fits 34 name
 name-fits {name} s = record { writes = bytes-writable name (s .bytes); short = name-length name s }
 
--- no number of a plan in range is above 1,000,000,000, which has 10 digits
-number-fits : (n : ℕ) → n ≤ 1_000_000_000 → Fits 10 (decimal n)
+-- no number of a plan in range has more than 10 digits
+number-fits : (n : ℕ) → n < 10 ^ 10 → Fits 10 (decimal n)
 number-fits n l = record { writes = decimal-writable n; short = number-length n 10 (omega arith) (omega arith) }
 
 -- a mode's word stands where a name stands in the other records
@@ -62,7 +63,7 @@ line-sound {a} {b} {c} {d} p q r s =
 
 -- engines and deliveries alike: the lines of items of a name and two numbers
 module _ {A B : Type 0} (kind : List ℕ) (name : A → List ℕ) (content : A → B) (third fourth : B → ℕ) (Ranged : B → Type 0) (word : Fits 8 kind)
-    (most : (b : B) → Ranged b → (third b ≤ 1_000_000_000) × (fourth b ≤ 1_000_000_000)) where
+    (most : (b : B) → Ranged b → (third b < 10 ^ 10) × (fourth b < 10 ^ 10)) where
   items-sound : (items : List A) → All SoundName (map name items) → All Ranged (map content items)
       → All Sound (map (λ item. kind ∷ name item ∷ decimal (third (content item)) ∷ decimal (fourth (content item)) ∷ []) items)
   items-sound [] named ranged = tt
@@ -72,12 +73,22 @@ module _ {A B : Type 0} (kind : List ℕ) (name : A → List ℕ) (content : A �
 
 -- ---- what the lines hold
 
--- the records behind record 1 are those of the engines and of the deliveries, in order
-lines-mixture : (es : List NamedEngine) (ds : List NamedDelivery) → Mixture (map engineLine es ++ map deliveryLine ds) es ds
-unfolding engineLine deliveryLine
-lines-mixture [] [] = mixture-end
-lines-mixture [] (d ∷ ds) = mixture-delivery (decimal-read (d .delivery .energy)) (decimal-read (d .delivery .limit)) (lines-mixture [] ds)
-lines-mixture (e ∷ es) ds = mixture-engine (decimal-read (e .engine .watts)) (decimal-read (e .engine .fuel)) (lines-mixture es ds)
+-- the records behind record 1 are those of the engines and of the deliveries, in order: behind a mixture, the deliveries' lines, then all lines
+delivery-lines : {records : List (List (List ℕ))} {es : List NamedEngine} {before : List NamedDelivery} → Mixture records es before → (ds : List NamedDelivery)
+    → Mixture (records ++ map deliveryLine ds) es (before ++ ds)
+unfolding deliveryLine
+delivery-lines {records} {es} {before} m [] = rw (append-nil records, append-nil before) m
+delivery-lines {records} {es} {before} m (d ∷ ds) =
+    rw (← append-assoc records (deliveryLine d ∷ []) (map deliveryLine ds), ← append-assoc before (d ∷ []) ds)
+    (delivery-lines (mixture-delivery m d (decimal-read (d .delivery .energy)) (decimal-read (d .delivery .limit))) ds)
+
+lines-mixture : {records : List (List (List ℕ))} {before : List NamedEngine} → Mixture records before [] → (es : List NamedEngine) (ds : List NamedDelivery)
+    → Mixture (records ++ (map engineLine es ++ map deliveryLine ds)) (before ++ es) ds
+unfolding engineLine
+lines-mixture {records} {before} m [] ds = rw (append-nil before) (delivery-lines m ds)
+lines-mixture {records} {before} m (e ∷ es) ds =
+    rw (← append-assoc records (engineLine e ∷ []) (map engineLine es ++ map deliveryLine ds), ← append-assoc before (e ∷ []) es)
+    (lines-mixture (mixture-engine m e (decimal-read (e .engine .watts)) (decimal-read (e .engine .fuel))) es ds)
 
 -- ---- the file
 
@@ -86,7 +97,7 @@ module _ (f : FilePlan) (ranges : InRange (unnamed f)) (engines : All SoundName 
   unfolding planLine unnamed ascii writable written
   plan-sound =
       line-sound (record { writes = refl; short = omega arith }) (mode-fits (f .mode)) (number-fits (f .minutes) (omega (arith, ranges .minutes .most)))
-      (number-fits (f .allowance) (ranges .allowance .most))
+      (number-fits (f .allowance) (omega (arith, ranges .allowance .most)))
 
   lines-sound : All Sound (itemLines f)
   unfolding itemLines engineLine deliveryLine unnamed ascii writable written
@@ -94,16 +105,16 @@ module _ (f : FilePlan) (ranges : InRange (unnamed f)) (engines : All SoundName 
       all-append Sound (map engineLine (f .engines)) (map deliveryLine (f .deliveries)) .1 (
         items-sound (ascii "engine") (λ (e : NamedEngine). e .name) (λ (e : NamedEngine). e .engine)
             (λ (e : Engine). e .watts) (λ (e : Engine). e .fuel) EngineInRange
-            (record { writes = refl; short = omega arith }) (λ e r. (omega (arith, r .watts .most), r .fuel .most))
+            (record { writes = refl; short = omega arith }) (λ e r. (omega (arith, r .watts .most), omega (arith, r .fuel .most)))
             (f .engines) engines (ranges .engines),
         items-sound (ascii "delivery") (λ (d : NamedDelivery). d .name) (λ (d : NamedDelivery). d .delivery)
             (λ (d : Delivery). d .energy) (λ (d : Delivery). d .limit) DeliveryInRange
-            (record { writes = refl; short = omega arith }) (λ d r. (r .energy .most, omega (arith, r .limit .most)))
+            (record { writes = refl; short = omega arith }) (λ d r. (omega (arith, r .energy .most), omega (arith, r .limit .most)))
             (f .deliveries) deliveries (ranges .deliveries),
       )
 
-  -- at most 12 engines and at most 64 deliveries
-  line-count : length (itemLines f) ≤ 76
+  -- no more lines than a plan may have engines and deliveries
+  line-count : length (itemLines f) ≤ mostEngines + mostDeliveries
   unfolding itemLines
   line-count =
       omega (
@@ -117,7 +128,7 @@ module _ (f : FilePlan) (ranges : InRange (unnamed f)) (engines : All SoundName 
         ranges .deliveryCount .most,
       )
 
-  -- so 77 lines of at most 88 bytes
+  -- and record 1, each of at most 88 bytes
   file-size : Within 1 mostBytes (length (planFile f))
   unfolding planFile planLine writtenFile
   file-size =
@@ -146,7 +157,7 @@ plan-file-holds f ranges engines deliveries enginesUnlike deliveriesUnlike =
       others = itemLines f;
       file = file-reads f ranges engines deliveries;
       planRecord = plan-record (decimal-read (f .minutes)) (decimal-read (f .allowance));
-      mixture = lines-mixture (f .engines) (f .deliveries);
+      mixture = lines-mixture mixture-none (f .engines) (f .deliveries);
       enginesNamed = engines;
       deliveriesNamed = deliveries;
       enginesUnlike = enginesUnlike;

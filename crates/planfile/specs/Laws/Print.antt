@@ -28,7 +28,7 @@ use Rattle.planfile.specs.Holding.{SoundName}
 use Rattle.planfile.specs.Laws.Decimals.{decimal-writable}
 use Rattle.planfile.specs.Laws.PieceLines.{lines-good}
 use Rattle.planfile.specs.Numerals.{decimal}
-use Rattle.planfile.specs.Print.{Line, wordOf, linesOf, answerLines, printOf, refusalPrint, lineOf}
+use Rattle.planfile.specs.Print.{Line, wordOf, linesOf, answerLines, printOf, refusalLine, refusalPrint, lineOf}
 
 -- ---- what can be written
 
@@ -89,27 +89,33 @@ lines-writable f engines deliveries (stopped tries) = tt
 
 -- ---- the prints
 
--- the print of an answer, where the names are sound, reads as line 1 and the lines of the pieces, each by the values of its four fields
-pub print-reads : (f : FilePlan) → All SoundName (engineNames f) → All SoundName (deliveryNames f) → (a : Planned)
-    → File (printOf f a) (answerLines (a .minutes) (a .result) (linesOf f (a .result)))
-unfolding printOf answerLines
-print-reads f engines deliveries a =
-    file-written (answerLines (a .minutes) (a .result) lines)
-    (file-writable _ lines
+-- the lines of an answer's print can be written where the names are sound
+pub print-writable : (f : FilePlan) → All SoundName (engineNames f) → All SoundName (deliveryNames f) → (a : Planned)
+    → writableFile (answerLines (a .minutes) (a .result) (linesOf f (a .result))) ≡ true
+unfolding answerLines
+print-writable f engines deliveries a =
+    file-writable _ lines
     (four-writable (wordOf (outcomeOf (a .result))) (decimal (a .minutes)) (decimal (triesOf (a .result))) (decimal (length lines))
     (word-writable (outcomeOf (a .result))) (decimal-writable (a .minutes)) (decimal-writable (triesOf (a .result))) (decimal-writable (length lines)))
-    (lines-writable f engines deliveries (a .result)))
+    (lines-writable f engines deliveries (a .result))
   where
     lines : List Line
     lines = linesOf f (a .result)
 
--- a refusal's print reads as its one line
-pub refusal-reads : (refusal : Refusal)
-    → File (refusalPrint refusal)
-    ((ascii "refused" ∷ decimal (faultNumber (refusal .fault)) ∷ decimal (refusal .place) ∷ ascii "0" ∷ []) ∷ [])
-unfolding refusalPrint writable ascii
-refusal-reads refusal =
-    file-written _
-    (file-writable _ []
+-- so the print reads as line 1 and the lines of the pieces, each by the values of its four fields
+pub print-reads : (f : FilePlan) → All SoundName (engineNames f) → All SoundName (deliveryNames f) → (a : Planned)
+    → File (printOf f a) (answerLines (a .minutes) (a .result) (linesOf f (a .result)))
+unfolding printOf
+print-reads f engines deliveries a = file-written _ (print-writable f engines deliveries a)
+
+-- a refusal's line can be written, and its print reads as that line
+pub refusal-writable : (refusal : Refusal) → writableFile (refusalLine refusal ∷ []) ≡ true
+unfolding writable ascii
+refusal-writable refusal =
+    file-writable _ []
     (four-writable (ascii "refused") (decimal (faultNumber (refusal .fault))) (decimal (refusal .place)) (ascii "0") refl
-    (decimal-writable (faultNumber (refusal .fault))) (decimal-writable (refusal .place)) refl) tt)
+    (decimal-writable (faultNumber (refusal .fault))) (decimal-writable (refusal .place)) refl) tt
+
+pub refusal-reads : (refusal : Refusal) → File (refusalPrint refusal) (refusalLine refusal ∷ [])
+unfolding refusalPrint
+refusal-reads refusal = file-written _ (refusal-writable refusal)

@@ -1,4 +1,4 @@
--- No print of a plan in range with sound names is longer than 6,715 bytes.
+-- No print of a plan in range with sound names is longer than `longestPrint`.
 -- Assumes nothing.
 use mathlib.Core.Path.{_≡_, refl, sym, _∙_}
 use Prim.Native.Nat.{ℕ, zero, suc, _+_, _*_, _^_, _≤_, _<_}
@@ -13,7 +13,7 @@ use Rattle.rfc4180.specs.Text.{ascii}
 use Rattle.rfc4180.specs.Writer.{needsQuotes, written, writtenLine, writtenFile, quoteCount}
 use Rattle.planning.specs.declared.Outcome.{Outcome}
 use Rattle.planning.specs.declared.Outcome.the-variants.{Found, None, Stopped}
-use Rattle.planning.specs.Bounds.{mostTries, mostEnergy, mostMinutes}
+use Rattle.planning.specs.Bounds.{mostEngines, mostDeliveries, mostTries, mostEnergy, mostMinutes}
 use Rattle.planning.specs.Laws.Finite.Sums.{entry-le-sum}
 use Rattle.planning.specs.Laws.Modes.{planned-searched}
 use Rattle.planning.specs.Laws.Plans.{length-capacities, length-energies}
@@ -31,12 +31,12 @@ use Rattle.planfile.specs.Laws.Decimals.{decimal-plain, decimal-length}
 use Rattle.planfile.specs.Laws.Holding.{engine-count, delivery-count}
 use Rattle.planfile.specs.Laws.PieceLines.{engines-named, deliveries-named, lines-good, found-lines}
 use Rattle.planfile.specs.Numerals.{decimal}
-use Rattle.planfile.specs.Print.{Line, wordOf, linesOf, answerLines, printOf, lineOf}
+use Rattle.planfile.specs.Print.{Line, wordOf, linesOf, answerLines, printOf, lineOf, longestPieceLine, longestPrint}
 
 -- ---- how long a line is
 
 -- a value holds no more quotes than bytes
-quotes-inside : (value : List ℕ) → quoteCount value ≤ length value
+pub quotes-inside : (value : List ℕ) → quoteCount value ≤ length value
 unfolding quoteCount
 quotes-inside [] = omega arith
 quotes-inside (b ∷ bs) = go (eqb b quote) (quotes-inside bs)
@@ -65,7 +65,7 @@ line-length a b c d = simp length-append (omega arith)
 
 -- the word, two names, ten digits
 piece-length : (delivery engine : List ℕ) (n : ℕ) → SoundName delivery → SoundName engine → suc n ≤ mostEnergy
-    → length (writtenLine (lineOf delivery engine (decimal (suc n)))) ≤ 88
+    → length (writtenLine (lineOf delivery engine (decimal (suc n)))) ≤ longestPieceLine
 piece-length delivery engine n d e l =
     omega (
       arith,
@@ -79,8 +79,8 @@ piece-length delivery engine n d e l =
     word : length (written (ascii "piece")) ≡ 5
     word = unfold written ascii in refl
 
--- lines of at most 88 bytes
-pub lines-length : (lines : List Line) → All (λ line. length (writtenLine line) ≤ 88) lines → length (writtenFile lines) ≤ 88 * length lines
+-- lines that are no longer than the longest of a piece
+pub lines-length : (lines : List Line) → All (λ line. length (writtenLine line) ≤ longestPieceLine) lines → length (writtenFile lines) ≤ longestPieceLine * length lines
 unfolding writtenFile
 lines-length [] h = omega arith
 lines-length (line ∷ lines) h = omega (arith, length-append (writtenLine line) (writtenFile lines), h .0, lines-length lines (h .1))
@@ -88,9 +88,9 @@ lines-length (line ∷ lines) h = omega (arith, length-append (writtenLine line)
 -- ---- how long a print is
 
 -- line 1 has its word, at most 5, 10 and 2 digits, three commas, CR and LF
-answer-length : (minutes : ℕ) (r : Result) (lines : List Line) → minutes ≤ mostMinutes → triesOf r ≤ mostTries → length lines ≤ 76
-    → All (λ line. length (writtenLine line) ≤ 88) lines
-    → length (writtenFile (answerLines minutes r lines)) ≤ length (written (wordOf (outcomeOf r))) + 22 + 88 * length lines
+answer-length : (minutes : ℕ) (r : Result) (lines : List Line) → minutes ≤ mostMinutes → triesOf r ≤ mostTries → length lines ≤ mostEngines + mostDeliveries
+    → All (λ line. length (writtenLine line) ≤ longestPieceLine) lines
+    → length (writtenFile (answerLines minutes r lines)) ≤ length (written (wordOf (outcomeOf r))) + 22 + longestPieceLine * length lines
 unfolding answerLines writtenFile
 answer-length minutes r lines m t n h =
     omega (
@@ -142,23 +142,23 @@ module _ (f : FilePlan) (ranges : InRange (unnamed f)) {tries : ℕ} {table : Li
   pub found-count : length (linesOf f (found tries table)) ≡ positives (length table) (at table)
   found-count = found-lines f tries table found-cells
 
-  -- at most 76 of them
-  pub found-few : length (linesOf f (found tries table)) ≤ 76
+  -- at most one for each engine and delivery
+  pub found-few : length (linesOf f (found tries table)) ≤ mostEngines + mostDeliveries
   found-few =
       omega (arith, found-count, found-pieces (unnamed f) ranges finds, ranges .deliveryCount .most, ranges .engineCount .most)
 
-  -- each of at most 88 bytes
+  -- each no longer than the longest
   found-short : All SoundName (engineNames f) → All SoundName (deliveryNames f)
-      → All (λ line. length (writtenLine line) ≤ 88) (linesOf f (found tries table))
+      → All (λ line. length (writtenLine line) ≤ longestPieceLine) (linesOf f (found tries table))
   unfolding linesOf
   found-short engines deliveries =
-      lines-good SoundName (λ n. n ≤ mostEnergy) (λ line. length (writtenLine line) ≤ 88) piece-length (deliveryNames f) (engineNames f) deliveries engines
+      lines-good SoundName (λ n. n ≤ mostEnergy) (λ line. length (writtenLine line) ≤ longestPieceLine) piece-length (deliveryNames f) (engineNames f) deliveries engines
       (λ p i. pieceIn (length (f .engines)) table p i)
       (λ p i k l. rw (engine-count f)
       at (piece-most (unnamed f) ranges finds p i (omega (arith, delivery-count f, deliveries-named f)) (omega (arith, engine-count f, engines-named f))))
 
--- 27 bytes for line 1 of found and 88 for each of 76 pieces; none and stopped have line 1 alone
-pub print-length : (f : FilePlan) → All SoundName (engineNames f) → All SoundName (deliveryNames f) → InRange (unnamed f) → length (printed f) ≤ 6715
+-- line 1 of found and the lines of its pieces; none and stopped have line 1 alone
+pub print-length : (f : FilePlan) → All SoundName (engineNames f) → All SoundName (deliveryNames f) → InRange (unnamed f) → length (printed f) ≤ longestPrint
 unfolding printed printOf linesOf outcomeOf wordOf written ascii
 print-length f engines deliveries ranges = go (planned (unnamed f) .result) refl
   where
@@ -171,7 +171,7 @@ print-length f engines deliveries ranges = go (planned (unnamed f) .result) refl
     tries-most : triesOf (planned (unnamed f) .result) ≤ mostTries
     tries-most = omega (arith, answered-tries (unnamed f), ranges .allowance .most)
 
-    go : (r : Result) → planned (unnamed f) .result ≡ r → length (writtenFile (answerLines minutes r (linesOf f r))) ≤ 6715
+    go : (r : Result) → planned (unnamed f) .result ≡ r → length (writtenFile (answerLines minutes r (linesOf f r))) ≤ longestPrint
     go (found tries table) e =
         let few = found-few f ranges e in
         let short = found-short f ranges e engines deliveries in

@@ -12,9 +12,9 @@ use lib.ListN.{length, take}
 use Rattle.planning.specs.declared.Answer.{Answer}
 use Rattle.planning.specs.declared.Refusal.{Refusal}
 use Rattle.planning.specs.Laws.Promises.{none-exactly, shortest-time, fixed-time, lent-table-serves, lent-kept, stopped-exactly, stopped-tries}
-use Rattle.planning.specs.Modes.{planned, answerOf, tableAfter, sparesAfter}
-use Rattle.planning.specs.Tables.{overFront, at}
-use Rattle.planning.specs.Refusals.{faultNumber}
+use Rattle.planning.specs.declared.Outcome.the-variants.{Found}
+use Rattle.planning.specs.Modes.{planned, answerOf, outcomeOf, tableAfter, sparesAfter}
+use Rattle.planning.specs.Tables.{overFront}
 use Rattle.planfile.specs.declared.FileAnswer.{FileAnswer}
 use Rattle.planfile.specs.declared.FileAnswer.the-variants.{Printed, Refused}
 use Rattle.planfile.specs.FileCall.{FileCall, printed, readCall, answerBy, answerToFile, onExit, fileTable, fileSpare, fileOutput}
@@ -23,9 +23,9 @@ use Rattle.planfile.specs.Holding.{Holds}
 use Rattle.planfile.specs.Laws.Holding.{accepted-holds, holds-unique, refused-iff, engine-count}
 use Rattle.planfile.specs.Laws.PrintLength.{found-cells}
 use Rattle.planfile.specs.Laws.Refusals.{refusal-placed}
-use Rattle.planfile.specs.Promises.{AnsweredExactly, RefusedByFile, TurnedDown, FoundServes, KeptUnlessFound, StoppedExactly, PrintReads, ReadsBack, NoneExactly, ShortestExactly}
-use Rattle.planfile.specs.Reading.{Read, refused, accepted, fault}
-use Rattle.planfile.specs.Laws.Promises.Calls.{accepted-call, call-accepted, refused-call, file-numbered, space-numbered}
+use Rattle.planfile.specs.Promises.{FaultInFile, FilePromised}
+use Rattle.planfile.specs.Reading.{Read, refused, accepted}
+use Rattle.planfile.specs.Laws.Promises.Calls.{accepted-call, call-accepted, refused-call, file-fault}
 use Rattle.planfile.specs.Laws.Promises.Answered.{table-after, spares-add, reads-back, front-taken, front-dropped, left-count, spare-after, found-result, print-lines}
 
 -- ---- the result taken apart
@@ -49,22 +49,6 @@ answered-by call (accepted f) read e = (f, record { read = read; answer = cc; si
 
 -- ---- the clauses
 
--- all clauses, in the contract's order
-abbrev pub Promised : FileCall → FileAnswer → (table spare output : List ℕ) → Type 0
-Promised call r table spare output =
-    (r ≡ answerToFile call)
-    × ((table ≡ fileTable call)
-    × ((spare ≡ fileSpare call)
-    × ((output ≡ fileOutput call)
-    × (AnsweredExactly call r
-    × (RefusedByFile call r
-    × (TurnedDown call r table spare output
-    × (FoundServes call r table spare
-    × (KeptUnlessFound call r table spare
-    × (StoppedExactly call r
-    × (NoneExactly call r
-    × (ShortestExactly call r × (PrintReads call r table output × ReadsBack call r table output))))))))))))
-
 module _ (call : FileCall) {r : FileAnswer} (result : r ≡ answerToFile call) where
   some-answering : {a : Answer} {n : ℕ} → r ≡ Printed a n → (f : FilePlan) × Answering call f a n
   unfolding answerToFile
@@ -81,36 +65,10 @@ module _ (call : FileCall) {r : FileAnswer} (result : r ≡ answerToFile call) w
   unfolding answerToFile
   refusing e = refused-by (readCall call) (sym result ∙ e)
 
-  answered-exactly : AnsweredExactly call r
-  unfolding AnsweredExactly answerToFile answerBy
-  answered-exactly = (
-    λ (a, n, e). accepted-call call (some-answering e .1 .read) .0,
-    λ ok. (answerOf (planned (unnamed (ok .plan))), length (printed (ok .plan)), result ∙ ap answerBy (call-accepted call ok)),
-  )
-
-  refused-clause : RefusedByFile call r
-  unfolding RefusedByFile faultNumber
-  refused-clause refusal e =
-      ⊎-elim
-      (λ m. let (eight, numbered) = file-numbered _ (refusal .place) (refusal .fault) (refusal-placed (call .file) refusal m) in
-      (numbered, (λ l. refused-iff (call .file) .0 (refusal, m), λ n. eight)))
-      (λ (f, m, s). rw s (space-numbered _, (λ l. absurd (omega arith), λ n. absurd (n f (accepted-holds (call .file) f m)))))
-      (refused-call call (refusing e))
-
-  stopped-clause : StoppedExactly call r
-  unfolding StoppedExactly unnamed
-  stopped-clause a n f e h = rw (← answering e h .answer) (stopped-exactly (unnamed f), stopped-tries (unnamed f))
-
-  none-clause : NoneExactly call r
-  unfolding NoneExactly unnamed
-  none-clause a n f e h = rw (← answering e h .answer) (none-exactly (unnamed f) (h .inRange))
-
-  shortest-clause : ShortestExactly call r
-  unfolding ShortestExactly unnamed
-  shortest-clause a n f e h found-it =
-      let finds = ap (λ (b : Answer). b .outcome) (answering e h .answer) ∙ found-it in
-      rw (← answering e h .answer)
-      (λ mode. shortest-time (unnamed f) (h .inRange) mode finds, λ mode. fixed-time (unnamed f) (h .inRange) mode finds .0)
+  -- the plan that is answered found
+  found-of : {a : Answer} {n : ℕ} {f : FilePlan} → Answering call f a n → a .outcome ≡ Found → outcomeOf (planned (unnamed f) .result) ≡ Found
+  unfolding answerOf
+  found-of x found-it = ap (λ (b : Answer). b .outcome) (x .answer) ∙ found-it
 
   module _ {table spare output : List ℕ} (table-is : table ≡ fileTable call) (spare-is : spare ≡ fileSpare call)
       (output-is : output ≡ fileOutput call) where
@@ -127,73 +85,64 @@ module _ (call : FileCall) {r : FileAnswer} (result : r ≡ answerToFile call) w
     unfolding fileOutput onExit
     output-then e = output-is ∙ rw e
 
-    turned-down : TurnedDown call r table spare output
-    unfolding TurnedDown fileTable fileSpare fileOutput onExit
-    turned-down refusal e = let read = refusing e in (table-is ∙ rw read, spare-is ∙ rw read, output-is ∙ rw read)
-
-    found-clause : FoundServes call r table spare
-    unfolding FoundServes answerOf
-    found-clause a n f e h found-it =
-        let x = answering e h in
-        let finds = ap (λ (b : Answer). b .outcome) (x .answer) ∙ found-it in
-        let (tries, cells, is) = found-result (planned (unnamed f) .result) finds in
-        rw (table-then (x .read), spare-then (x .read), ← x .answer) (
-          rw (engine-count f) at (lent-table-serves (unnamed f) (h .inRange) (call .table) finds),
-          spares-add f (h .inRange) is (call .table) (call .spare),
-          rw (table-after f (h .inRange) is (call .table)) (front-dropped cells (call .table) (found-cells f (h .inRange) is)),
-          rw (spare-after f (h .inRange) is (call .spare)) (front-dropped _ (call .spare) (left-count f (h .inRange) is)),
-        )
-
-    kept-clause : KeptUnlessFound call r table spare
-    unfolding KeptUnlessFound
-    kept-clause a n e other =
-        let (f, x) = some-answering e in
-        rw (table-then (x .read), spare-then (x .read))
-        (lent-kept (unnamed f) (call .table) (call .spare) (λ found-it. other (ap (λ (b : Answer). b .outcome) (sym (x .answer)) ∙ found-it)))
-
     print-taken : {f : FilePlan} {a : Answer} {n : ℕ} → Answering call f a n → take n output ≡ printed f
     print-taken {f} x = rw (output-then (x .read)) (front-taken (printed f) (call .output) (x .size))
 
-    print-clause : PrintReads call r table output
-    unfolding PrintReads
-    print-clause a n f e h =
-        let x = answering e h in
-        let (ok, same) = accepted-call call (x .read) in (
-          rw (← x .size, ← same) (ok .output),
-          rw (output-then (x .read)) (front-dropped (printed f) (call .output) (x .size)),
-          rw (print-taken x, table-then (x .read), ← x .answer) (print-lines f h (call .table)),
-        )
-
-    back-clause : ReadsBack call r table output
-    unfolding ReadsBack answerOf
-    back-clause a n f e h found-it lines file =
-        let x = answering e h in
-        let (tries, cells, is) = found-result (planned (unnamed f) .result) (ap (λ (b : Answer). b .outcome) (x .answer) ∙ found-it) in
-        rw (table-then (x .read)) (reads-back f (h .inRange) is (call .table) h lines (rw (print-taken x) at file))
-
-    pub every-promise : Promised call r table spare output
-    every-promise = (
-      result,
-      (
-        table-is,
-        (
-          spare-is,
-          (
-            output-is,
-            (
-              answered-exactly,
-              (
-                refused-clause,
-                (
-                  turned-down,
-                  (
-                    found-clause,
-                    (kept-clause, (stopped-clause, (none-clause, (shortest-clause, (print-clause, back-clause))))),
-                  ),
-                ),
-              ),
-            ),
-          ),
-        ),
-      ),
-    )
+    pub promised : FilePromised call r table spare output
+    unfolding FaultInFile answerToFile answerBy answerOf fileTable fileSpare fileOutput onExit unnamed
+    promised =
+        record {
+          result = result;
+          table = table-is;
+          spare = spare-is;
+          output = output-is;
+          answeredExactly = (
+            λ (a, n, e). accepted-call call (some-answering e .1 .read) .0,
+            λ ok. (answerOf (planned (unnamed (ok .plan))), length (printed (ok .plan)), result ∙ ap answerBy (call-accepted call ok)),
+          );
+          refusedByFile =
+              λ refusal e.
+              ⊎-elim
+              (λ m. let (placed, other) = file-fault _ (refusal .place) (refusal .fault) (refusal-placed (call .file) refusal m) in
+              (placed, (λ space. absurd (other space), λ (f, h). absurd (refused-iff (call .file) .0 (refusal, m) f h))))
+              (λ (f, m, s). rw s (refl, (λ space. (f, accepted-holds (call .file) f m), λ held. refl)))
+              (refused-call call (refusing e));
+          turnedDown = λ refusal e. let read = refusing e in (table-is ∙ rw read, spare-is ∙ rw read, output-is ∙ rw read);
+          foundServes =
+              λ a n f e h found-it.
+              let x = answering e h in
+              let finds = found-of x found-it in
+              let (tries, cells, is) = found-result (planned (unnamed f) .result) finds in
+              rw (table-then (x .read), spare-then (x .read), ← x .answer) (
+                rw (engine-count f) at (lent-table-serves (unnamed f) (h .inRange) (call .table) finds),
+                spares-add f (h .inRange) is (call .table) (call .spare),
+                rw (table-after f (h .inRange) is (call .table)) (front-dropped cells (call .table) (found-cells f (h .inRange) is)),
+                rw (spare-after f (h .inRange) is (call .spare)) (front-dropped _ (call .spare) (left-count f (h .inRange) is)),
+              );
+          keptUnlessFound =
+              λ a n e other.
+              let (f, x) = some-answering e in
+              rw (table-then (x .read), spare-then (x .read))
+              (lent-kept (unnamed f) (call .table) (call .spare) (λ found-it. other (ap (λ (b : Answer). b .outcome) (sym (x .answer)) ∙ found-it)));
+          stoppedExactly = λ a n f e h. rw (← answering e h .answer) (stopped-exactly (unnamed f), stopped-tries (unnamed f));
+          printReads =
+              λ a n f e h.
+              let x = answering e h in
+              let (ok, same) = accepted-call call (x .read) in (
+                rw (← x .size, ← same) (ok .output),
+                rw (output-then (x .read)) (front-dropped (printed f) (call .output) (x .size)),
+                rw (print-taken x, table-then (x .read), ← x .answer) (print-lines f h (call .table)),
+              );
+          readsBack =
+              λ a n f e h found-it lines file.
+              let x = answering e h in
+              let (tries, cells, is) = found-result (planned (unnamed f) .result) (found-of x found-it) in
+              rw (table-then (x .read)) (reads-back f (h .inRange) is (call .table) h lines (rw (print-taken x) at file));
+          noneExactly = λ a n f e h. rw (← answering e h .answer) (none-exactly (unnamed f) (h .inRange));
+          shortestExactly =
+              λ a n f e h found-it.
+              let x = answering e h in
+              let finds = found-of x found-it in
+              rw (← x .answer)
+              (λ mode. shortest-time (unnamed f) (h .inRange) mode finds, λ mode. fixed-time (unnamed f) (h .inRange) mode finds .0);
+        }

@@ -12,8 +12,8 @@ use Rattle.rfc4180.specs.Laws.Records.{and-then}
 use Rattle.planning.specs.declared.Mode.{Mode}
 use Rattle.planning.specs.Bounds.{mostMinutes, mostTries}
 use Rattle.planning.specs.Plan.{Within}
-use Rattle.planfile.specs.FilePlan.{FilePlan, NamedEngine, NamedDelivery, engineOf, deliveryOf, begun, withEngine, withDelivery}
-use Rattle.planfile.specs.Holding.{modeWord, PlanRecord, plan-record, Mixture, mixture-end, mixture-engine, mixture-delivery}
+use Rattle.planfile.specs.FilePlan.{FilePlan, NamedEngine, NamedDelivery, begun}
+use Rattle.planfile.specs.Holding.{modeWord, PlanRecord, plan-record, Mixture, mixture-none, mixture-engine, mixture-delivery}
 use Rattle.planfile.specs.Numerals.{Numeral}
 use Rattle.planfile.specs.Reading.{accepted, fault, FourFields, readPlan, readRecords, readTexts}
 use Rattle.planfile.specs.Laws.Listed.{listed-front}
@@ -22,112 +22,77 @@ use Rattle.planfile.specs.Laws.Tests.{same-iff, refused-not-accepted, ac
 
 -- ---- the records behind a plan
 
--- the plan with further engines and deliveries behind its own
-abbrev pub extended : FilePlan → List NamedEngine → List NamedDelivery → FilePlan
-extended f engines deliveries =
-    record {
-      mode = f .mode;
-      minutes = f .minutes;
-      allowance = f .allowance;
-      engines = f .engines ++ engines;
-      deliveries = f .deliveries ++ deliveries;
-    }
+-- records, by their values, that are added to f one after the other and make g
+pub data Steps : FilePlan → List (List (List ℕ)) → FilePlan → Type 0 where
+  steps-none : {f : FilePlan} → Steps f [] f
+  steps-first : {f h g : FilePlan} {x : FourFields} {others : List (List (List ℕ))} → Added f x h → Steps h others g → Steps f (fieldList x ∷ others) g
 
-extended-nothing : (f : FilePlan) → extended f [] [] ≡ f
-extended-nothing f = rw (append-nil (f .engines), append-nil (f .deliveries))
+-- one record more behind them
+steps-last : {f h g : FilePlan} {x : FourFields} {others : List (List (List ℕ))} → Steps f others h → Added h x g → Steps f (others ++ fieldList x ∷ []) g
+steps-last steps-none a = steps-first a steps-none
+steps-last (steps-first b s) a = steps-first b (steps-last s a)
 
-front-so-far : (f : FilePlan) (engines : List NamedEngine) (deliveries : List NamedDelivery) → SoFar (extended f engines deliveries) → SoFar f
-front-so-far f engines deliveries s =
-    record {
-      minutes = s .minutes;
-      allowance = s .allowance;
-      engines = listed-front _ _ _ _ (f .engines) engines (s .engines);
-      deliveries = listed-front _ _ _ _ (f .deliveries) deliveries (s .deliveries);
-    }
+-- they add engines and deliveries alone
+record SameOpening (f g : FilePlan) : Type 0 where
+  mode : f .mode ≡ g .mode
+  minutes : f .minutes ≡ g .minutes
+  allowance : f .allowance ≡ g .allowance
 
--- The texts are records of the grammar, their values are engines and deliveries, these behind those of f make g, and g keeps what a
--- plan has to keep.
+steps-opening : {f g : FilePlan} {others : List (List (List ℕ))} → Steps f others g → SameOpening f g
+steps-opening steps-none = record { mode = refl; minutes = refl; allowance = refl }
+steps-opening (steps-first (added-engine kind p q) s) =
+    let o = steps-opening s in record { mode = o .mode; minutes = o .minutes; allowance = o .allowance }
+steps-opening (steps-first (added-delivery kind p q) s) =
+    let o = steps-opening s in record { mode = o .mode; minutes = o .minutes; allowance = o .allowance }
+
+-- behind a mixture they make a mixture
+steps-mixture : {f g : FilePlan} {records others : List (List (List ℕ))} → Mixture records (f .engines) (f .deliveries) → Steps f others g
+    → Mixture (records ++ others) (g .engines) (g .deliveries)
+steps-mixture {records = records} m steps-none = rw (append-nil records) m
+steps-mixture {records = records} m (steps-first {x = x} {others = others} (added-engine kind p q) s) =
+    rw (← append-assoc records (fieldList x ∷ []) others) (steps-mixture {records = records ++ fieldList x ∷ []} (rw kind (mixture-engine m _ p q)) s)
+steps-mixture {records = records} m (steps-first {x = x} {others = others} (added-delivery kind p q) s) =
+    rw (← append-assoc records (fieldList x ∷ []) others) (steps-mixture {records = records ++ fieldList x ∷ []} (rw kind (mixture-delivery m _ p q)) s)
+
+-- and each mixture is made by such records from nothing on
+mixture-steps : (mode : Mode) (minutes allowance : ℕ) {records : List (List (List ℕ))} {engines : List NamedEngine} {deliveries : List NamedDelivery}
+    → Mixture records engines deliveries
+    → Steps (begun mode minutes allowance) records (record { mode = mode; minutes = minutes; allowance = allowance; engines = engines; deliveries = deliveries })
+mixture-steps mode minutes allowance mixture-none = steps-none
+mixture-steps mode minutes allowance (mixture-engine {w = w} {f = v} m e p q) =
+    steps-last {x = record { first = ascii "engine"; second = e .name; third = w; fourth = v }} (mixture-steps mode minutes allowance m) (added-engine refl p q)
+mixture-steps mode minutes allowance (mixture-delivery {e = w} {l = v} m d p q) =
+    steps-last {x = record { first = ascii "delivery"; second = d .name; third = w; fourth = v }} (mixture-steps mode minutes allowance m)
+    (added-delivery refl p q)
+
+-- the plan before them keeps what the plan behind them keeps
+steps-so-far : {f g : FilePlan} {others : List (List (List ℕ))} → Steps f others g → SoFar g → SoFar f
+steps-so-far steps-none t = t
+steps-so-far {f = f} (steps-first (added-engine {watts = watts} {fuel = fuel} kind p q) s) t =
+    let u = steps-so-far s t in
+    record { minutes = u .minutes; allowance = u .allowance; engines = listed-front _ _ _ _ (f .engines) _ (u .engines); deliveries = u .deliveries }
+steps-so-far {f = f} (steps-first (added-delivery {energy = energy} {limit = limit} kind p q) s) t =
+    let u = steps-so-far s t in
+    record { minutes = u .minutes; allowance = u .allowance; engines = u .engines; deliveries = listed-front _ _ _ _ (f .deliveries) _ (u .deliveries) }
+
+-- The texts are records of the grammar, their values are added to f and make g, and g keeps what a plan has to keep.
 pub record Behind (f : FilePlan) (texts : List (List ℕ)) (g : FilePlan) : Type 0 where
   pub others : List (List (List ℕ))
   pub values : readAll fieldValues texts ≡ some others
-  pub engines : List NamedEngine
-  pub deliveries : List NamedDelivery
-  pub mixture : Mixture others engines deliveries
-  pub whole : extended f engines deliveries ≡ g
+  pub steps : Steps f others g
   pub soFar : SoFar g
 
 -- where there is no text, nothing is added
-mixture-nothing : {others : List (List (List ℕ))} {engines : List NamedEngine} {deliveries : List NamedDelivery}
-    → Mixture others engines deliveries → others ≡ [] → (f : FilePlan) → extended f engines deliveries ≡ f
-mixture-nothing mixture-end e f = extended-nothing f
-mixture-nothing (mixture-engine p q m) e f = absurd (cons≢nil e)
-mixture-nothing (mixture-delivery p q m) e f = absurd (cons≢nil e)
+steps-nothing : {f g : FilePlan} {others : List (List (List ℕ))} → Steps f others g → others ≡ [] → f ≡ g
+steps-nothing steps-none e = refl
+steps-nothing (steps-first a s) e = absurd (cons≢nil e)
 
 behind-nothing : (f g : FilePlan) → SoFar f → (f ≡ g) ↔ Behind f [] g
 unfolding readAll
 behind-nothing f g s = (
-  λ e.
-      record {
-        others = [];
-        values = refl;
-        engines = [];
-        deliveries = [];
-        mixture = mixture-end;
-        whole = extended-nothing f ∙ e;
-        soFar = subst SoFar e s;
-      },
-  λ b. sym (mixture-nothing (b .mixture) (sym (Option·some-inj .0 (b .values))) f) ∙ b .whole,
+  λ e. record { others = []; values = refl; steps = subst (Steps f []) e steps-none; soFar = subst SoFar e s },
+  λ b. steps-nothing (b .steps) (sym (Option·some-inj .0 (b .values))),
 )
-
--- a mixture behind f, from its first record on: what that adds to f, and the mixture that is left
-record Begins (f : FilePlan) (values : List (List ℕ)) (others : List (List (List ℕ))) (g : FilePlan) : Type 0 where
-  fields : FourFields
-  these : values ≡ fieldList fields
-  after : FilePlan
-  added : Added f fields after
-  engines : List NamedEngine
-  deliveries : List NamedDelivery
-  mixture : Mixture others engines deliveries
-  whole : extended after engines deliveries ≡ g
-
-mixture-begins : {all : List (List (List ℕ))} {engines : List NamedEngine} {deliveries : List NamedDelivery} → Mixture all engines deliveries
-    → (values : List (List ℕ)) (others : List (List (List ℕ))) → all ≡ values ∷ others → (f : FilePlan)
-    → Begins f values others (extended f engines deliveries)
-mixture-begins mixture-end values others e f = absurd (nil≢cons e)
-mixture-begins (mixture-engine {name = name} {w = w} {f = v} {watts = watts} {fuel = fuel} {engines = engines} {deliveries = deliveries} p q m)
-    values others e f =
-    record {
-      fields = record { first = ascii "engine"; second = name; third = w; fourth = v };
-      these = sym (head-eq-of-cons-eq e);
-      after = withEngine f (engineOf name watts fuel);
-      added = added-engine refl p q;
-      engines = engines;
-      deliveries = deliveries;
-      mixture = rw (← tail-eq-of-cons-eq e) m;
-      whole = rw append-assoc;
-    }
-mixture-begins (mixture-delivery {name = name} {e = w} {l = v} {energy = energy} {limit = limit} {engines = engines} {deliveries = deliveries} p q m)
-    values others e f =
-    record {
-      fields = record { first = ascii "delivery"; second = name; third = w; fourth = v };
-      these = sym (head-eq-of-cons-eq e);
-      after = withDelivery f (deliveryOf name energy limit);
-      added = added-delivery refl p q;
-      engines = engines;
-      deliveries = deliveries;
-      mixture = rw (← tail-eq-of-cons-eq e) m;
-      whole = rw append-assoc;
-    }
-
--- the other way: a record that adds to f, before a mixture behind the plan with what it adds
-added-mixture : {f : FilePlan} {x : FourFields} {h : FilePlan} → Added f x h
-    → {others : List (List (List ℕ))} {engines : List NamedEngine} {deliveries : List NamedDelivery} → Mixture others engines deliveries
-    → (more : List NamedEngine) × (more′ : List NamedDelivery) × Mixture (fieldList x ∷ others) more more′
-    × (extended f more more′ ≡ extended h engines deliveries)
-added-mixture {f = f} {x = x} (added-engine {watts = watts} {fuel = fuel} kind p q) {engines = engines} {deliveries = deliveries} m =
-    (engineOf (x .second) watts fuel ∷ engines, deliveries, rw kind (mixture-engine p q m), rw append-assoc)
-added-mixture {f = f} {x = x} (added-delivery {energy = energy} {limit = limit} kind p q) {engines = engines} {deliveries = deliveries} m =
-    (engines, deliveryOf (x .second) energy limit ∷ deliveries, rw kind (mixture-delivery p q m), rw append-assoc)
 
 -- `Behind`, from its first text on: what that adds to f, and the texts behind the plan with what it adds
 record FirstBehind (f : FilePlan) (text : List ℕ) (texts : List (List ℕ)) (g : FilePlan) : Type 0 where
@@ -138,42 +103,28 @@ record FirstBehind (f : FilePlan) (text : List ℕ) (texts : List (List ℕ)) (g
   soFar : SoFar after
   behind : Behind after texts g
 
-first-behind : {f : FilePlan} {text : List ℕ} {texts : List (List ℕ)} {g : FilePlan} (b : Behind f (text ∷ texts) g)
+first-behind : {f g : FilePlan} {text : List ℕ} {texts : List (List ℕ)} {all : List (List (List ℕ))} → Steps f all g → SoFar g
     → (values : List (List ℕ)) (others : List (List (List ℕ))) → fieldValues text ≡ some values → readAll fieldValues texts ≡ some others
-    → values ∷ others ≡ b .others → FirstBehind f text texts g
-first-behind {f = f} b values others p q e =
-    let first = mixture-begins (b .mixture) values others (sym e) f in
-    let whole = first .whole ∙ b .whole in
+    → values ∷ others ≡ all → FirstBehind f text texts g
+first-behind steps-none t values others p q e = absurd (cons≢nil e)
+first-behind (steps-first {x = x} a s) t values others p q e =
     record {
-      fields = first .fields;
-      values = p ∙ ap some (first .these);
-      after = first .after;
-      added = first .added;
-      soFar = front-so-far (first .after) (first .engines) (first .deliveries) (subst SoFar (sym whole) (b .soFar));
-      behind =
-          record {
-            others = others;
-            values = q;
-            engines = first .engines;
-            deliveries = first .deliveries;
-            mixture = first .mixture;
-            whole = whole;
-            soFar = b .soFar;
-          };
+      fields = x;
+      values = p ∙ ap some (head-eq-of-cons-eq e);
+      after = _;
+      added = a;
+      soFar = steps-so-far s t;
+      behind = record { others = _; values = q ∙ ap some (tail-eq-of-cons-eq e); steps = s; soFar = t };
     }
 
 behind-first : {f : FilePlan} {text : List ℕ} {texts : List (List ℕ)} {g : FilePlan} → FirstBehind f text texts g → Behind f (text ∷ texts) g
 unfolding readAll andThen
 behind-first first =
     let b = first .behind in
-    let (engines, deliveries, mixture, same-plan) = added-mixture (first .added) (b .mixture) in
     record {
       others = fieldList (first .fields) ∷ b .others;
       values = ap₂ andThen (first .values) (b .values);
-      engines = engines;
-      deliveries = deliveries;
-      mixture = mixture;
-      whole = same-plan ∙ b .whole;
+      steps = steps-first (first .added) (b .steps);
       soFar = b .soFar;
     }
 
@@ -183,7 +134,7 @@ behind-more f text texts g = (
   behind-first,
   λ b.
       and-then (λ all. all ≡ b .others → FirstBehind f text texts g) (fieldValues text) (readAll fieldValues texts)
-      (first-behind b) (b .others) (b .values) refl,
+      (first-behind (b .steps) (b .soFar)) (b .others) (b .values) refl,
 )
 
 -- records behind a plan are read, and make g, where they are such records
@@ -269,16 +220,16 @@ recorded : {text : List ℕ} {x : FourFields} {mode : Mode} {minutes allowance :
     → fieldValues text ≡ some (fieldList x) → PlanRecord (fieldList x) mode minutes allowance → Behind (begun mode minutes allowance) texts f
     → Recorded (text ∷ texts) f
 unfolding readAll andThen
-recorded {text = text} {x = x} {texts = texts} read planRecord b =
-    subst (Recorded (text ∷ texts)) (b .whole)
-    (record {
+recorded {x = x} read planRecord b =
+    let opening = steps-opening (b .steps) in
+    record {
       first = fieldList x;
       others = b .others;
       values = ap₂ andThen read (b .values);
-      planRecord = planRecord;
-      mixture = b .mixture;
-      soFar = subst SoFar (sym (b .whole)) (b .soFar);
-    })
+      planRecord = rw (← opening .mode, ← opening .minutes, ← opening .allowance) planRecord;
+      mixture = steps-mixture mixture-none (b .steps);
+      soFar = b .soFar;
+    }
 
 texts-sound : (texts : List (List ℕ)) (f : FilePlan) → readTexts texts ≡ accepted f → Recorded texts f
 unfolding readTexts fault
@@ -301,10 +252,7 @@ first-complete text texts f h values others p q e =
     record {
       others = h .others;
       values = q ∙ ap some (tail-eq-of-cons-eq e);
-      engines = f .engines;
-      deliveries = f .deliveries;
-      mixture = h .mixture;
-      whole = refl;
+      steps = mixture-steps (f .mode) (f .minutes) (f .allowance) (h .mixture);
       soFar = h .soFar;
     } in
     bind-iff _ _ f .1 (

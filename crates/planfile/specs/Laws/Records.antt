@@ -12,9 +12,9 @@ use Rattle.planning.specs.Bounds.{mostEngines, mostDeliveries, mostMinutes, mos
 use Rattle.planning.specs.Plan.{Within, EngineInRange, DeliveryInRange}
 use Rattle.planfile.specs.FilePlan.{FilePlan, NamedEngine, NamedDelivery, engineOf, deliveryOf, withEngine, withDelivery}
 use Rattle.planfile.specs.Numerals.{Numeral}
-use Rattle.planfile.specs.Reading.{accepted, fault, same, FourFields, fourOf, unlessBroken, fieldsOf, readEngine, readDelivery, recordBy, readRecord, readItem}
+use Rattle.planfile.specs.Reading.{accepted, fault, same, FourFields, fourOf, unlessBroken, fieldsOf, Figures, readEngine, readDelivery, recordBy, readRecord}
 use Rattle.planfile.specs.Laws.Listed.{Listed, item-iff}
-use Rattle.planfile.specs.Laws.Tests.{same-iff, refused-not-accepted, accepted-iff}
+use Rattle.planfile.specs.Laws.Tests.{same-iff, refused-not-accepted, accepted-iff, then-iff}
 
 -- ---- four fields
 
@@ -61,22 +61,26 @@ pub record SoFar (f : FilePlan) : Type 0 where
 
 -- an engine is read where its numbers are numerals and the engines with it keep what they have to keep; a delivery likewise
 pub read-engine-iff : (f : FilePlan) (r : ℕ) (x : FourFields) (g : FilePlan) → SoFar f → (readEngine f r x ≡ accepted g)
-    ↔ ((watts fuel : ℕ) × Numeral (x .third) watts × Numeral (x .fourth) fuel × Engines (f .engines ++ engineOf (x .second) watts fuel ∷ [])
-    × (withEngine f (engineOf (x .second) watts fuel) ≡ g))
-unfolding readEngine readItem
+    ↔ ((v : Figures) × (Numeral (x .third) (v .first) × Numeral (x .fourth) (v .second)
+    × Engines (f .engines ++ engineOf (x .second) (v .first) (v .second) ∷ []))
+    × (withEngine f (engineOf (x .second) (v .first) (v .second)) ≡ g))
+unfolding readEngine
 read-engine-iff f r x g s =
+    then-iff _ _ g λ v.
     item-iff (λ (e : NamedEngine). e .name) (λ (e : NamedEngine). e .engine) EngineInRange mostEngines 0 mostWatts 0 mostFuel engineOf
     (λ text n m. refl) (λ text n m. (λ fits. (fits .watts, fits .fuel), λ fits. record { watts = fits .0; fuel = fits .1 }))
-    (f .engines) r x (λ n m. withEngine f (engineOf (x .second) n m)) g (s .engines)
+    (f .engines) r x v (s .engines)
 
 pub read-delivery-iff : (f : FilePlan) (r : ℕ) (x : FourFields) (g : FilePlan) → SoFar f → (readDelivery f r x ≡ accepted g)
-    ↔ ((energy limit : ℕ) × Numeral (x .third) energy × Numeral (x .fourth) limit
-    × Deliveries (f .deliveries ++ deliveryOf (x .second) energy limit ∷ []) × (withDelivery f (deliveryOf (x .second) energy limit) ≡ g))
-unfolding readDelivery readItem
+    ↔ ((v : Figures) × (Numeral (x .third) (v .first) × Numeral (x .fourth) (v .second)
+    × Deliveries (f .deliveries ++ deliveryOf (x .second) (v .first) (v .second) ∷ []))
+    × (withDelivery f (deliveryOf (x .second) (v .first) (v .second)) ≡ g))
+unfolding readDelivery
 read-delivery-iff f r x g s =
+    then-iff _ _ g λ v.
     item-iff (λ (d : NamedDelivery). d .name) (λ (d : NamedDelivery). d .delivery) DeliveryInRange mostDeliveries 1 mostEnergy 1 mostLimit deliveryOf
     (λ text n m. refl) (λ text n m. (λ fits. (fits .energy, fits .limit), λ fits. record { energy = fits .0; limit = fits .1 }))
-    (f .deliveries) r x (λ n m. withDelivery f (deliveryOf (x .second) n m)) g (s .deliveries)
+    (f .deliveries) r x v (s .deliveries)
 
 -- ---- one record more
 
@@ -92,13 +96,13 @@ record-sound : (engine delivery : Bool) (f : FilePlan) (r : ℕ) (x : FourFields
     → recordBy engine delivery f r x ≡ accepted g → Added f x g × SoFar g
 unfolding recordBy fault
 record-sound true delivery f r x g s t u e =
-    let (watts, fuel, p, q, engines, found) = read-engine-iff f r x g s .0 e in
+    let (v, (p, q, engines), found) = read-engine-iff f r x g s .0 e in
     subst (λ (g : FilePlan). Added f x g × SoFar g) found (
       added-engine (same-iff _ _ .0 t) p q,
       record { minutes = s .minutes; allowance = s .allowance; engines = engines; deliveries = s .deliveries },
     )
 record-sound false true f r x g s t u e =
-    let (energy, limit, p, q, deliveries, found) = read-delivery-iff f r x g s .0 e in
+    let (v, (p, q, deliveries), found) = read-delivery-iff f r x g s .0 e in
     subst (λ (g : FilePlan). Added f x g × SoFar g) found (
       added-delivery (same-iff _ _ .0 u) p q,
       record { minutes = s .minutes; allowance = s .allowance; engines = s .engines; deliveries = deliveries },
@@ -109,10 +113,10 @@ record-complete : {f : FilePlan} {x : FourFields} {g : FilePlan} → (r : ℕ) �
 unfolding readRecord recordBy same ascii
 record-complete {f = f} {x = x} r s (added-engine {watts = watts} {fuel = fuel} kind p q) after =
     ap (λ (text : List ℕ). recordBy (same text (ascii "engine")) (same text (ascii "delivery")) f r x) kind
-    ∙ read-engine-iff f r x _ s .1 (watts, fuel, p, q, after .engines, refl)
+    ∙ read-engine-iff f r x _ s .1 (record { first = watts; second = fuel }, (p, q, after .engines), refl)
 record-complete {f = f} {x = x} r s (added-delivery {energy = energy} {limit = limit} kind p q) after =
     ap (λ (text : List ℕ). recordBy (same text (ascii "engine")) (same text (ascii "delivery")) f r x) kind
-    ∙ read-delivery-iff f r x _ s .1 (energy, limit, p, q, after .deliveries, refl)
+    ∙ read-delivery-iff f r x _ s .1 (record { first = energy; second = limit }, (p, q, after .deliveries), refl)
 
 -- a record is read behind a plan where it adds an engine or a delivery and the plan with it keeps what a plan has to keep
 pub read-record-iff : (f : FilePlan) (r : ℕ) (x : FourFields) (g : FilePlan) → SoFar f → (readRecord f r x ≡ accepted g) ↔ (Added f x g × SoFar g)

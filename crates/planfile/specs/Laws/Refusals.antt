@@ -13,9 +13,10 @@ use Rattle.planning.specs.declared.Fault.{Fault}
 use Rattle.planning.specs.declared.Fault.the-variants.{Size, Grammar, Fields, Kind, Name, Value, Count, NoEngine, Space}
 use Rattle.planning.specs.declared.Refusal.{Refusal}
 use Rattle.planning.specs.Plan.{Within}
-use Rattle.planfile.specs.FilePlan.{FilePlan, NamedEngine, NamedDelivery}
+use Rattle.planfile.specs.FilePlan.{FilePlan, engineNames, deliveryNames}
 use Rattle.planfile.specs.Numerals.{numberOf}
-use Rattle.planfile.specs.Reading.{Read, refused, accepted, _>>=_, fault, require, FourFields, fourOf, unlessBroken, fieldsOf, modeBy, readMode, numberBy, readNumber, readPlan, readEngine, readDelivery, recordBy, readRecord, readRecords, readTexts, readFile, readItem}
+use Rattle.planfile.specs.Reading.{Read, refused, accepted, _>>=_, fault, require, FourFields, fourOf, unlessBroken, fieldsOf, modeBy, readMode}
+use Rattle.planfile.specs.Reading.{numberBy, readNumber, readPlan, readItem, readEngine, readDelivery, recordBy, readRecord, readRecords, readTexts, readFile}
 
 -- "Each refusal returns its number and the record counted from 1 (0 for 1, 8 and 9)": the places that a fault may have in a file of
 -- so many records; no place for 9, which is not a file's fault
@@ -70,19 +71,18 @@ module _ (count r : ℕ) (here : Within 1 count r) where
   number-placed low high none = here
   number-placed low high (some n) = bind-placed count _ _ (require-placed count _ Value r here) (λ u. tt)
 
-  item-placed : {A : Type 0} (name : A → List ℕ) (most low high low′ high′ : ℕ) (items : List A) (x : FourFields) (after : ℕ → ℕ → FilePlan)
-      → Placed count (readItem name most low high low′ high′ items r x after)
+  item-placed : (most low high low′ high′ : ℕ) (names : List (List ℕ)) (x : FourFields) → Placed count (readItem most low high low′ high′ names r x)
   unfolding readItem readNumber
-  item-placed name most low high low′ high′ items x after =
+  item-placed most low high low′ high′ names x =
       bind-placed count _ _ (require-placed count _ Count r here) λ u.
       bind-placed count _ _ (require-placed count _ Name r here) λ u.
       bind-placed count _ _ (number-placed low high (numberOf (x .third))) λ n.
       bind-placed count _ _ (number-placed low′ high′ (numberOf (x .fourth))) λ m. tt
 
   record-placed : (engine delivery : Bool) (f : FilePlan) (x : FourFields) → Placed count (recordBy engine delivery f r x)
-  unfolding recordBy readEngine readDelivery readItem fault
-  record-placed true delivery f x = item-placed (λ (e : NamedEngine). e .name) _ _ _ _ _ (f .engines) x _
-  record-placed false true f x = item-placed (λ (d : NamedDelivery). d .name) _ _ _ _ _ (f .deliveries) x _
+  unfolding recordBy readEngine readDelivery fault
+  record-placed true delivery f x = bind-placed count _ _ (item-placed _ _ _ _ _ (engineNames f) x) λ v. tt
+  record-placed false true f x = bind-placed count _ _ (item-placed _ _ _ _ _ (deliveryNames f) x) λ v. tt
   record-placed false false f x = here
 
 -- ---- all records

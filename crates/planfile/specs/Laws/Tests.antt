@@ -2,12 +2,13 @@
 -- Assumes nothing.
 use mathlib.Core.Path.{_≡_, refl, sym, ap, _∙_, subst}
 use mathlib.Core.Logic.{_↔_, Iff·rfl}
-use Prim.Native.Nat.{ℕ, _-_}
+use Prim.Native.Nat.{ℕ, suc, _-_, _≤_, _<_}
 use native.Mathlib.Omega.{arith}
-use mathlib.Core.Bool.{Bool, true, false, cond, not, and-eq-true-iff, false≢true}
+use mathlib.Core.Bool.{Bool, true, false, cond, not, _&&_, and-eq-true-iff, false≢true}
 use mathlib.Core.List.{List, [], _∷_, nil≢cons, cons≢nil, cons-eq-cons}
 use mathlib.Core.Option.{Option, none, some, Option·none-ne-some, Option·some-inj}
 use lib.Dec.{eqb}
+use lib.ListN.{length}
 use borrow.Author.Tests.{eqb-true, eqb-false}
 use Rattle.rfc4180.specs.Text.{ascii}
 use Rattle.planning.specs.declared.Fault.{Fault}
@@ -19,7 +20,7 @@ use Rattle.planning.specs.Laws.Numbers.{eqb-iff, within-iff}
 use Rattle.planfile.specs.Bounds.{leastNameByte, mostNameByte}
 use Rattle.planfile.specs.Holding.{SoundName, modeWord}
 use Rattle.planfile.specs.Numerals.{digitZero, digitNine, valueBehind, Numeral, numeral-zero, numeral-digits, allDigits, numberOf}
-use Rattle.planfile.specs.Reading.{Read, refused, accepted, _>>=_, fault, require, same, modeBy, readMode, numberBy, readNumber, nameBytes, soundName, unused}
+use Rattle.planfile.specs.Reading.{Read, refused, accepted, _>>=_, fault, require, same, modeBy, readMode, numberBy, readNumber, nameBytes, soundName, unused, placeOf}
 
 -- ---- texts and names
 
@@ -54,6 +55,27 @@ pub unused-iff : (name : List ℕ) (names : List (List ℕ)) → (unused name na
 unfolding unused
 unused-iff name [] = (λ e. tt, λ e. refl)
 unused-iff name (other ∷ names) = simp (and-eq-true-iff, not-iff, same-iff, unused-iff name names) Iff·rfl
+
+-- a name with a place among names is used, and one whose place is behind them all is not
+pub used-place : (name : List ℕ) (names : List (List ℕ)) → placeOf name names < length names → unused name names ≡ false
+unfolding unused placeOf
+used-place name [] l = absurd (omega arith)
+used-place name (other ∷ names) l = go (same name other) (used-place name names) l
+  where
+    go : (t : Bool) → (placeOf name names < length names → unused name names ≡ false) → cond t 0 (suc (placeOf name names)) < suc (length names)
+        → (not t && unused name names) ≡ false
+    go true others l = refl
+    go false others l = others (omega arith)
+
+pub unused-place : (name : List ℕ) (names : List (List ℕ)) → length names ≤ placeOf name names → unused name names ≡ true
+unfolding unused placeOf
+unused-place name [] l = refl
+unused-place name (other ∷ names) l = go (same name other) (unused-place name names) l
+  where
+    go : (t : Bool) → (length names ≤ placeOf name names → unused name names ≡ true) → suc (length names) ≤ cond t 0 (suc (placeOf name names))
+        → (not t && unused name names) ≡ true
+    go true others l = absurd (omega arith)
+    go false others l = others (omega arith)
 
 -- ---- numbers
 
@@ -126,6 +148,14 @@ pub bind-iff : {A B : Type 0} (m : Read A) (next : A → Read B) (b : B)
 unfolding _>>=_
 bind-iff (refused refusal) next b = (λ e. absurd (refused-not-accepted e), λ found. absurd (refused-not-accepted (found .1)))
 bind-iff (accepted value) next b = (λ e. (value, refl, e), λ found. ap next (accepted-iff _ _ .0 (found .1)) ∙ found .2)
+
+-- .. also where the second makes its value of the first's
+pub then-iff : {A B : Type 0} {P : A → Type 0} (m : Read A) (after : A → B) (b : B) → ((a : A) → (m ≡ accepted a) ↔ P a)
+    → (_>>=_ m (λ a. accepted (after a)) ≡ accepted b) ↔ ((a : A) × P a × (after a ≡ b))
+then-iff m after b means = (
+  λ e. let (a, read, found) = bind-iff m _ b .0 e in (a, means a .0 read, accepted-iff _ b .0 found),
+  λ (a, p, found). bind-iff m _ b .1 (a, means a .1 p, accepted-iff _ b .1 found),
+)
 
 -- what stands behind a check is accepted where its test holds and that is accepted
 pub require-iff : {B : Type 0} (t : Bool) (what : Fault) (r : ℕ) (next : Unit {0} → Read B) (b : B)

@@ -1,11 +1,11 @@
 -- The class of a byte says what the byte is in the grammar, and the grammar's bytes have the classes named after them.
 -- Assumes nothing.
-use mathlib.Core.Path.{_≡_, refl, subst}
+use mathlib.Core.Path.{_≡_, refl, sym, ap, _∙_, subst}
 use Prim.Native.Nat.{ℕ, _≤_, _<_}
-use mathlib.Core.Bool.{Bool, true, false, cond, _||_, and-eq-true-iff}
+use mathlib.Core.Bool.{Bool, true, false, cond, _||_, and-eq-true-iff, true≢false}
 use native.Mathlib.Omega.{arith}
 use lib.Dec.{leb, eqb}
-use borrow.Author.Tests.{leb-true, leb-false, eqb-true, le-leb, lt-leb, ne-eqb}
+use borrow.Author.Tests.{leb-true, leb-false, eqb-true, le-leb, lt-leb, eq-eqb, ne-eqb}
 use Rattle.rfc4180.specs.declared.ByteClass.{ByteClass}
 use Rattle.rfc4180.specs.declared.ByteClass.the-variants.{Text, Quote, Comma, CarriageReturn, LineFeed, Refused}
 use Rattle.rfc4180.specs.Bytes.{quote, comma, carriageReturn, lineFeed, inRange, classOf}
@@ -56,6 +56,12 @@ text-class {b} (text-23-2B p q) = rw (le-leb 0x20 b (omega arith), lt-leb b 0x21
 text-class {b} (text-2D-7E p q) =
     rw (le-leb 0x20 b (omega arith), lt-leb b 0x21 (omega arith), le-leb 0x23 b (omega arith), lt-leb b 0x2B (omega arith), le-leb 0x2D b p, le-leb b 0x7E q)
 
+-- TEXTDATA stands between 20 and 7E
+pub text-bounds : {b : ℕ} → TextData b → (0x20 ≤ b) × (b ≤ 0x7E)
+text-bounds {b} (text-20-21 p q) = (omega arith, omega arith)
+text-bounds {b} (text-23-2B p q) = (omega arith, omega arith)
+text-bounds {b} (text-2D-7E p q) = (omega arith, omega arith)
+
 -- no byte with a name is TEXTDATA
 pub text-no-quote : {b : ℕ} → TextData b → eqb b quote ≡ false
 text-no-quote {b} (text-20-21 p q) = ne-eqb b quote (omega arith)
@@ -94,3 +100,23 @@ high-refused b high =
     rw (le-leb 0x20 b (omega arith), le-leb 0x23 b (omega arith), le-leb 0x2D b (omega arith))
     (rw (lt-leb b 0x21 (omega arith), lt-leb b 0x2B (omega arith), lt-leb b 0x7E (omega arith))
     (rw (ne-eqb b quote (omega arith), ne-eqb b comma (omega arith), ne-eqb b carriageReturn (omega arith), ne-eqb b lineFeed (omega arith))))
+
+-- ---- bytes of different classes are different
+
+abbrev pub classNumber : ByteClass → ℕ
+classNumber Text = 0
+classNumber Quote = 1
+classNumber Comma = 2
+classNumber CarriageReturn = 3
+classNumber LineFeed = 4
+classNumber Refused = 5
+
+-- a byte is not one of another class
+pub other-byte : (b n : ℕ) {k : ByteClass} → classOf b ≡ k → eqb (classNumber k) (classNumber (classOf n)) ≡ false → eqb b n ≡ false
+other-byte b n {k} e other = go (eqb b n) refl
+  where
+    go : (t : Bool) → eqb b n ≡ t → eqb b n ≡ false
+    go true p =
+        let same : k ≡ classOf n = sym e ∙ ap classOf (eqb-true b n p) in
+        absurd (true≢false (sym (eq-eqb (classNumber k) (classNumber (classOf n)) (ap classNumber same)) ∙ other))
+    go false p = p

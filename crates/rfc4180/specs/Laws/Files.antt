@@ -115,13 +115,6 @@ found-record : (bytes text : List ℕ) (o : Option (List ℕ)) (values : List (L
     → Record text values → Record ((firstRecord bytes) .text) values
 found-record bytes text o values e r = subst (λ (found : FirstRecord). Record (found .text) values) (sym e) r
 
--- a file of the grammar begins with the first record that is found
-pub file-walked : {bytes : List ℕ} {all : List (List (List ℕ))} → File bytes all → Walked bytes all
-unfolding further
-file-walked (file-last r) = let e = first-record-last r in walked-last (ap further e) (found-record _ _ _ _ e r)
-file-walked (file-ended r) = let e = first-record-ended r [] in walked-last (ap further e) (found-record _ _ _ _ e r)
-file-walked (file-more {b = b} {rest = rest} r f) = let e = first-record-ended r (b ∷ rest) in walked-more (ap further e) (found-record _ _ _ _ e r) f
-
 last-file : (bytes text : List ℕ) (values : List (List ℕ)) (o : Option (List ℕ)) → bytes ≡ text ++ ending o → Option·getD o [] ≡ []
     → Record text values → File bytes (values ∷ [])
 last-file bytes text values none whole e r = rw (whole, append-nil) (file-last r)

@@ -40,7 +40,7 @@ first-record-last {text} r = ap (firstFrom true) (sym (append-nil text)) ∙ rec
 
 -- ---- a record of the grammar is read as its values
 
-raw-last : {raw value : List ℕ} → Field raw value → rawFields raw ≡ raw ∷ []
+pub raw-last : {raw value : List ℕ} → Field raw value → rawFields raw ≡ raw ∷ []
 unfolding rawFields
 raw-last {raw} r = ap (rawFieldsFrom true) (sym (append-nil raw)) ∙ unbroken-uncut (field-unbroken r) [] ∙ rw append-nil
 
@@ -94,7 +94,3 @@ fields-record (raw ∷ next ∷ raws) n values e =
 pub record-sound : (text : List ℕ) (values : List (List ℕ)) → fieldValues text ≡ some values → Record text values
 unfolding fieldValues
 record-sound text values e = rw (joined-raw true text) at (fields-record (rawFields text) (raw-non-empty true text) values e)
-
--- a record has one list of values
-pub record-unique : {text : List ℕ} {vs ws : List (List ℕ)} → Record text vs → Record text ws → vs ≡ ws
-record-unique r s = Option·some-inj .0 (sym (record-complete r) ∙ record-complete s)

@@ -1,6 +1,6 @@
 -- What the writer writes is of the grammar and reads as the values written, and how long it is. Assumes nothing.
 use mathlib.Core.Path.{_≡_, refl}
-use Prim.Native.Nat.{ℕ, suc, _+_}
+use Prim.Native.Nat.{ℕ, suc, _+_, _≤_}
 use native.Mathlib.Omega.{arith}
 use mathlib.Core.Bool.{Bool, true, false, cond, _||_, true≢false, false≢true, and-eq-true-iff}
 use mathlib.Core.List.{List, [], _∷_, _++_, append-assoc, append-nil}
@@ -108,3 +108,13 @@ length-written value = go (needsQuotes value)
     go : (t : Bool) → length (cond t (quote ∷ doubled value ++ quote ∷ []) value) ≡ cond t (length value + quoteCount value + 2) (length value)
     go true = omega (arith, length-doubled value, length-append (doubled value) (quote ∷ []))
     go false = refl
+
+-- a value holds at most as many quotes as bytes
+pub quote-count-le : (value : List ℕ) → quoteCount value ≤ length value
+unfolding quoteCount
+quote-count-le [] = omega arith
+quote-count-le (b ∷ rest) = go (eqb b quote) (quote-count-le rest)
+  where
+    go : (t : Bool) → quoteCount rest ≤ length rest → cond t (suc (quoteCount rest)) (quoteCount rest) ≤ suc (length rest)
+    go true h = omega arith
+    go false h = omega arith

@@ -6,6 +6,7 @@ use lib.ListN.{length, take, drop, getD}
 use borrow.Author.Tests.{le-leb, lt-leb, eq-eqb, ne-eqb}
 use Rattle.rfc4180.specs.Bytes.{quote}
 use Rattle.csv.specs.Spans.{insideOf}
+use Rattle.csv.specs.Laws.Promises.{hands-part}
 use Rattle.csv.proofs.fields.part_of.Statement.{statement}
 use Rattle.csv.proofs.fields.part_of.Tie as tie
 
@@ -31,15 +32,15 @@ returns c =
     let inside : insideOf raw ≡ take (length raw - 2) (drop 1 raw) =
     rw (le-leb 2 (length raw) (c .before .before .before .if1 .taken), eq-eqb (getD raw 0 0) quote (c .before .if2 .taken)) in
     let n : length raw - 1 - 1 ≡ length raw - 2 = omega arith in
-    ap (λ (k : ℕ). take k (drop 1 raw)) n ∙ sym inside
+    hands-part raw (ap (λ (k : ℕ). take k (drop 1 raw)) n ∙ sym inside)
 
 returns-2 : tie.Need-returns-2
 unfolding insideOf
-returns-2 c = rw (le-leb 2 _ (c .before .before .if1 .taken), ne-eqb _ _ (c .if2 .left))
+returns-2 c = hands-part _ (rw (le-leb 2 _ (c .before .before .if1 .taken), ne-eqb _ _ (c .if2 .left)))
 
 returns-3 : tie.Need-returns-3
 unfolding insideOf
-returns-3 c = rw (lt-leb 2 _ (c .if1 .left))
+returns-3 c = hands-part _ (rw (lt-leb 2 _ (c .if1 .left)))
 
 pub part-of-spec : {M : Type 1} → statement M
 part-of-spec =

@@ -1,18 +1,16 @@
 -- `csv::records::record_at` meets its contract. The loop's invariant: the span is that of a record whose text so far ends here, outside
 -- quotes. The measure is what is left. Assumes nothing.
 use mathlib.Core.Path.{_≡_, refl, sym, _∙_}
-use mathlib.Core.Logic.{⊎-elim}
 use mathlib.Core.Bool.{true}
-use mathlib.Core.Option.{none}
-use mathlib.Core.List.{_∷_}
-use Prim.Native.Nat.{_+_, _-_, _<_}
+use Prim.Native.Nat.{_+_, _-_}
 use native.Mathlib.Omega.{arith}
-use lib.ListN.{length, drop, getD, drop-of-length-le}
-use Rattle.rfc4180.specs.Records.{behindEnd, firstFrom, firstRecord}
-use Rattle.csv.specs.Spans.{recordSpan}
-use Rattle.csv.specs.Laws.Spans.{spanOf, record-ended, record-unended, no-end-alone, end-outside}
+use lib.ListN.{length, drop}
+use Rattle.rfc4180.specs.Records.{firstFrom, firstRecord}
 use Rattle.rfc4180.specs.Laws.Places.{bytes-from}
-use Rattle.csv.specs.Laws.Scans.{record-found, cr-passed}
+use Rattle.csv.specs.Spans.{recordSpan}
+use Rattle.csv.specs.Laws.Outside.{record-found}
+use Rattle.csv.specs.Laws.Promises.{ends-record}
+use Rattle.csv.specs.Laws.Spans.{spanOf, record-ended, cr-passed, record-unended}
 use Rattle.csv.proofs.records.record_at.Statement.{statement}
 use Rattle.csv.proofs.records.record_at.Tie as tie
 
@@ -35,55 +33,39 @@ found : (c : tie.After-find-outside Inv-loop μ-loop) → let args = c .before .
     recordSpan (args .file .now) (args .from) ≡ spanOf at (firstFrom true (drop at (args .file .now)))
 found c = c .before .before .loop .inv ∙ record-found _ _ _ (c .find-outside .ensures)
 
-sub-if2 : tie.Need-sub-if2 Inv-loop μ-loop
-sub-if2 c = omega arith
+add-holds : tie.Need-add-holds Inv-loop μ-loop
+add-holds c = omega arith
 
-add-if3 : tie.Need-add-if3 Inv-loop μ-loop
-add-if3 c = omega arith
+holds-requires : tie.Need-holds-requires Inv-loop μ-loop
+holds-requires c κs = tt
 
-shared-slice-read-if3 : tie.Need-shared-slice-read-if3 Inv-loop μ-loop
-shared-slice-read-if3 c = omega arith
-
-add-t13 : tie.Need-add-t13 Inv-loop μ-loop
-add-t13 c = omega arith
+add-t8 : tie.Need-add-t8 Inv-loop μ-loop
+add-t8 c = omega arith
 
 returns : tie.Need-returns Inv-loop μ-loop
 returns c =
-    let after = c .before .before .before .before in
+    let after = c .before .before .before in
     let at = after .find-outside .result in
     let file = after .before .before .before .before .args .file .now in
-    let inside = c .before .before .before .if1 .taken in
-    let h : at + 1 < length file = omega arith in
-    let e = end-outside (getD file at 0) _ (drop (at + 1 + 1) file) (after .find-outside .ensures .stops inside) (c .if3 .taken) in
-    sym (found after ∙ rw (bytes-from file at inside, bytes-from file (at + 1) h) (record-ended true _ _ _ at e))
+    let inside = c .before .before .if1 .taken in
+    let line-feed = sym (c .before .holds .ensures) ∙ c .if2 .taken in
+    let ended = record-ended _ (drop (at + 1) file) at (after .find-outside .ensures .stops inside) line-feed in
+    ends-record file _ (sym (found after ∙ rw (bytes-from file at inside) ended))
 
 add-at : tie.Need-add-at Inv-loop μ-loop
 add-at c = omega arith
 
 loop-less : tie.Need-loop-less Inv-loop μ-loop
-loop-less c = omega (arith, c .before .before .find-outside .ensures .place)
-
--- no record ends at a CR that no LF follows
-unended : (c : tie.Joined2 Inv-loop μ-loop) → let at = c .before .before .find-outside .result in
-    let file = c .before .before .before .before .before .before .args .file .now in
-    behindEnd true (getD file at 0 ∷ drop (at + 1) file) ≡ none
-unfolding behindEnd
-unended c =
-    let at = c .before .before .find-outside .result in
-    let file = c .before .before .before .before .before .before .args .file .now in
-    ⊎-elim
-    (λ w. rw (bytes-from file (at + 1) (omega arith)) (no-end-alone (getD file at 0) _ (drop (at + 1 + 1) file) (w .2 .left)))
-    (λ w. rw (drop-of-length-le file {i = at + 1} (omega arith)))
-    (c .if2 .came)
+loop-less c = omega (arith, c .before .before .before .find-outside .ensures .place)
 
 loop-again : tie.Need-loop-again Inv-loop μ-loop
 loop-again c =
-    let after = c .before .before in
+    let after = c .before .before .before in
     let at = after .find-outside .result in
     let file = after .before .before .before .before .args .file .now in
-    let inside = c .before .if1 .taken in
-    found after
-    ∙ rw (bytes-from file at inside) (cr-passed _ (drop (at + 1) file) at (after .find-outside .ensures .stops inside) (unended c))
+    let inside = c .before .before .if1 .taken in
+    let other = sym (c .before .holds .ensures) ∙ c .if2 .left in
+    found after ∙ rw (bytes-from file at inside) (cr-passed _ (drop (at + 1) file) at (after .find-outside .ensures .stops inside) other)
 
 loop-less-2 : tie.Need-loop-less-2 Inv-loop μ-loop
 loop-less-2 c = omega arith
@@ -92,7 +74,7 @@ loop-again-2 : tie.Need-loop-again-2 Inv-loop μ-loop
 loop-again-2 c = found (c .before)
 
 returns-2 : tie.Need-returns-2 Inv-loop μ-loop
-returns-2 c = sym (c .before .loop .inv ∙ record-unended true _ (c .before .loop .at) (c .loop-test .left))
+returns-2 c = ends-record _ _ (sym (c .before .loop .inv ∙ record-unended true _ (c .before .loop .at) (c .loop-test .left)))
 
 pub record-at-spec : {M : Type 1} → statement M
 record-at-spec =
@@ -102,10 +84,9 @@ record-at-spec =
     μ-loop
     loop-holds
     find-outside-requires
-    sub-if2
-    add-if3
-    shared-slice-read-if3
-    add-t13
+    add-holds
+    holds-requires
+    add-t8
     returns
     add-at
     loop-less

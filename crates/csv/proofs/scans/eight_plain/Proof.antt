@@ -1,25 +1,25 @@
--- `csv::scans::eight_plain` meets its contract. The loop's invariant: where the flag is still set the bytes so far are plain. The measure
--- is what is left of the eight. Assumes nothing.
-use mathlib.Core.Path.{_≡_, sym, _∙_}
-use mathlib.Core.Logic.{⊎-elim}
-use mathlib.Core.Bool.{true, false≢true}
+-- `csv::scans::eight_plain` meets its contract. The loop's invariant: the flag is still set exactly where the bytes so far are plain. The
+-- measure is what is left of the eight. Assumes nothing.
+use mathlib.Core.Path.{_≡_, refl, sym, _∙_}
+use mathlib.Core.Logic.{_↔_, ⊎-elim}
+use mathlib.Core.Bool.{true, true≢false, false≢true}
 use Prim.Native.Nat.{_+_, _-_, _≤_, _<_}
 use native.Mathlib.Omega.{arith}
 use lib.ListN.{length}
-use borrow.Author.Tests.{not-false}
+use borrow.Author.Tests.{not-true, not-false}
 use Rattle.csv.specs.Scans.{Passed}
 use Rattle.csv.specs.Laws.Scans.{one-passed}
 use Rattle.csv.proofs.scans.eight_plain.Statement.{statement}
 use Rattle.csv.proofs.scans.eight_plain.Tie as tie
 
 abbrev Inv-loop : tie.InvT-loop
-Inv-loop bytes at low high b plain₀ k₀ plain k = (k ≤ 8) × (plain ≡ true → Passed bytes low high b at (at + k))
+Inv-loop bytes at quoted plain₀ k₀ plain k = (k ≤ 8) × ((plain ≡ true) ↔ Passed bytes quoted at (at + k))
 
 abbrev μ-loop : tie.MeasureT-loop
-μ-loop bytes at low high b plain₀ k₀ plain k = 8 - k
+μ-loop bytes at quoted plain₀ k₀ plain k = 8 - k
 
 loop-holds : tie.Need-loop-holds Inv-loop μ-loop
-loop-holds c = (omega arith, λ e i lo hi. absurd (omega arith))
+loop-holds c = (omega arith, (λ e i lo hi. absurd (omega arith), λ passed. refl))
 
 add-is-plain : tie.Need-add-is-plain Inv-loop μ-loop
 add-is-plain c = omega arith
@@ -42,17 +42,21 @@ loop-again c =
     let args = c .before .before .before .before .before .before .args in
     let bytes = args .bytes .now in
     let at = args .at in
-    let h : at + loop .k < length bytes = omega arith in (
+    let here = sym (c .before .is-plain .ensures) in
+    let h : at + loop .k < length bytes = omega arith in
+    let z : at + (loop .k + 1) ≡ at + loop .k + 1 = omega arith in (
       omega arith,
-      λ e.
-          ⊎-elim
-          (λ w. absurd (false≢true (sym (w .1) ∙ e)))
-          (λ w.
-          let z : at + (loop .k + 1) ≡ at + loop .k + 1 = omega arith in
-          rw z
-          (one-passed bytes (args .low) (args .high) (args .b) at (at + loop .k) (loop .inv .1 (sym (w .1) ∙ e)) h
-          (sym (c .before .is-plain .ensures) ∙ not-false _ (w .0 .left))))
-          (c .if1 .came),
+      rw z
+          (⊎-elim
+          (λ w. (
+            λ e. absurd (false≢true (sym (w .1) ∙ e)),
+            λ passed. absurd (true≢false (sym (passed (at + loop .k) (omega arith) (omega arith) .1) ∙ here ∙ not-true _ (w .0 .taken))),
+          ))
+          (λ w. (
+            λ e. one-passed bytes (args .quoted) at (at + loop .k) (loop .inv .1 .0 (sym (w .1) ∙ e)) h (here ∙ not-false _ (w .0 .left)),
+            λ passed. w .1 ∙ loop .inv .1 .1 (λ i lo hi. passed i lo (omega arith)),
+          ))
+          (c .if1 .came)),
     )
 
 returns : tie.Need-returns Inv-loop μ-loop

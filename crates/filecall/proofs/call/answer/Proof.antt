@@ -16,8 +16,8 @@ array-borrow-prefix-pieces c = cells-fit (c .before .before .before .before .pre
 slice-aggregate-answer-on : tie.Need-slice-aggregate-answer-on
 slice-aggregate-answer-on c = sym (length-take-le _ _ (cells-fit (c .before .before .before .before .before .pre .0)))
 
-array-borrow-prefix-rest : tie.Need-array-borrow-prefix-rest
-array-borrow-prefix-rest c = omega arith
+array-borrow-prefix-spares : tie.Need-array-borrow-prefix-spares
+array-borrow-prefix-spares c = omega arith
 
 slice-aggregate-answer-on-2 : tie.Need-slice-aggregate-answer-on-2
 slice-aggregate-answer-on-2 c = sym (length-take-le _ _ (c .before .before .before .before .before .before .pre .0 .engines .room))
@@ -46,7 +46,7 @@ answer-spec =
     mul-cells
     array-borrow-prefix-pieces
     slice-aggregate-answer-on
-    array-borrow-prefix-rest
+    array-borrow-prefix-spares
     slice-aggregate-answer-on-2
     answer-on-requires
     same-length

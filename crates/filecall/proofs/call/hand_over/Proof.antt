@@ -1,101 +1,140 @@
 -- `filecall::call::hand_over` meets its contract: by whether the print fits, and with found or without. Assumes nothing.
 use mathlib.Core.Path.{_≡_, sym, ap, _∙_}
-use mathlib.Core.Logic.{⊎-elim}
-use mathlib.Core.Bool.{true, false}
 use mathlib.Core.List.{List, [], _∷_}
-use Prim.Native.Nat.{ℕ}
+use Prim.Native.Nat.{ℕ, _≤_}
 use native.Mathlib.Omega.{arith}
+use denote.Ref.{now}
 use types.Run.{miss}
-use lib.Dec.{leb}
-use lib.ListN.{length, take, drop}
-use lib.Seq.{take-append-seam}
+use lib.ListN.{length, take}
 use borrow.Author.Needs.{needs}
-use borrow.Author.Tests.{le-leb, lt-leb}
-use Rattle.planning.specs.Tables.{overFront}
-use Rattle.filecall.specs.HandOver.{numbersIf}
-use Rattle.filecall.specs.Laws.HandOver.{numbers-length, found-numbers, kept-numbers, not-handed, handed}
-use Rattle.filecall.specs.Laws.Printing.{put-front}
+use Rattle.lines.proofs.Stopped.{no-next}
+use Rattle.lines.specs.declared.Wrote.{Wrote}
+use Rattle.lines.specs.declared.Wrote.the-variants.{Next}
+use Rattle.lines.specs.Laws.Front.{bytes-at-front, bytes-kept}
+use Rattle.lines.specs.Putting.{plain, Output, output, Puts}
+use Rattle.planning.specs.declared.Outcome.the-variants.{Found}
+use Rattle.planfile.specs.FileCall.{printed}
+use Rattle.planfile.specs.Print.{longestPrint}
+use Rattle.planreader.specs.Plans.{planBy}
+use Rattle.filecall.specs.Laws.HandOver.{cells-fit, own-cells, own-count, print-made, handed, not-handed, found-numbers, kept-numbers}
 use Rattle.filecall.proofs.call.hand_over.Statement.{statement}
 use Rattle.filecall.proofs.call.hand_over.Tie as tie
 
+abbrev start-of : tie.After-write → tie.Start
+start-of c = c .before .before .before .before .before .before .before
+
+abbrev print-of : tie.After-write → List ℕ
+print-of c = printed (planBy (start-of c .args .plan))
+
+abbrev made-of : tie.After-write → List ℕ
+made-of c = c .write .last .1 .1 .1 .0
+
 -- the print stands at the front of what was made
-front : (print lent made : List ℕ) (n : ℕ) → n ≡ length print → made ≡ overFront print lent → take n made ≡ print
-unfolding overFront
-front print lent made n e f = rw (e, f) (take-append-seam print (drop (length print) lent))
+made : (c : tie.After-write) → (c .write .result ≡ Next (length (print-of c))) × (take (length (print-of c)) (made-of c) ≡ print-of c)
+    × (length (print-of c) ≤ longestPrint)
+made c = print-made (start-of c .pre .0) (omega arith) (c .write .ensures)
 
--- as many of its bytes as it has
-made-length : (c : tie.After-write) → length (take (c .write .result) (c .write .last .1 .1 .1 .1 .1 .1 .1 .1 .0)) ≡ c .write .result
-made-length c = ap length (front _ _ _ _ (c .write .ensures .0) (c .write .ensures .1)) ∙ sym (c .write .ensures .0)
+same-place : {r : Wrote} {m n : ℕ} → r ≡ Next m → r ≡ Next n → m ≡ n
+same-place p q = cc
 
--- the tables by what was answered
-table-is : (c : tie.At-match-came) → c .match .table ≡ numbersIf true (c .before .before .before .before .before .before .before .before .before .before .before .before .before .before .args .answer .outcome) (c .before .before .before .before .before .before .before .before .before .before .before .before .before .before .args .pieces .now) (c .before .before .before .before .before .before .before .before .before .before .before .before .before .before .args .table .now)
-table-is c =
-    ⊎-elim
-    (λ w. w .10 ∙ w .3 .ensures ∙ found-numbers _ _ _ (w .1 .given .1))
-    (λ w. w .1 ∙ kept-numbers _ _ _ (λ e. miss (1 ∷ 2 ∷ []) 0 tt (rw e at (w .0 .keys2))))
-    (c .match .came)
+-- and is lent whole
+size : (c : tie.After-print) → c .print .given .0 .0 ≡ length (print-of (c .before .before .before))
+size c = same-place (c .print .given .1) (made (c .before .before .before) .0)
 
-spare-is : (c : tie.At-match-came) → c .match .spare ≡ numbersIf true (c .before .before .before .before .before .before .before .before .before .before .before .before .before .before .args .answer .outcome) (c .before .before .before .before .before .before .before .before .before .before .before .before .before .before .args .rest .now) (c .before .before .before .before .before .before .before .before .before .before .before .before .before .before .args .spare .now)
-spare-is c =
-    ⊎-elim
-    (λ w. w .11 ∙ w .7 .ensures ∙ found-numbers _ _ _ (w .1 .given .1))
-    (λ w. w .2 ∙ kept-numbers _ _ _ (λ e. miss (1 ∷ 2 ∷ []) 0 tt (rw e at (w .0 .keys2))))
-    (c .match .came)
+lent : (c : tie.After-print) → let wrote = c .before .before .before in take (c .print .given .0 .0) (made-of wrote) ≡ print-of wrote
+lent c = let wrote = c .before .before .before in ap (λ n. take n (made-of wrote)) (size c) ∙ made wrote .1
+
+as-print : {bytes print : List ℕ} {before after : Output} → bytes ≡ print → Puts (plain bytes ∷ []) before after → Puts (plain print ∷ []) before after
+as-print e put = rw e at put
+
+abbrev print-at : tie.After-write-bytes → tie.After-print
+print-at c = c .before .before .before .before
+
+put : (c : tie.After-write-bytes) → Puts (plain (print-of (print-at c .before .before .before)) ∷ [])
+    (output (Next 0) (now (start-of (print-at c .before .before .before) .args .output))) (output (c .write-bytes .result) (c .write-bytes .last .1 .0))
+put c = as-print (lent (print-at c)) (c .write-bytes .ensures .puts)
 
 slice-aggregate-write : tie.Need-slice-aggregate-write
 slice-aggregate-write c = omega arith
 
 write-requires : tie.Need-write-requires
-write-requires c κs = search needs
+write-requires c κs = let answers = c .before .before .before .before .before .before .pre .0 in (answers .usable, own-cells answers)
+
+enum-known-print : tie.Need-enum-known-print
+enum-known-print c = c .match .keys1
 
 returns : tie.Need-returns
-returns c bytes e =
-    let start = c .before .before .before .before .before .before .before .before .before .before .before .before .before in
-    let wrote = c .before .before .write in
-    let short : leb (length bytes) (length (start .args .output .now)) ≡ false =
-    lt-leb (length bytes) (length (start .args .output .now)) (omega (arith, c .if1 .taken, wrote .ensures .0, ap length e)) in
-    not-handed (leb (length bytes) (length (start .args .output .now))) (start .args .answer) _ _ _ bytes _ _ _ short
-
-enum-told : tie.Need-enum-told
-enum-told c = c .match .keys1
-
-copy-requires : tie.Need-copy-requires
-copy-requires c κs = omega arith
-
-copy-requires-2 : tie.Need-copy-requires-2
-copy-requires-2 c κs = omega arith
+returns c = absurd (no-next (c .match .keys2) _ (made (c .before .before) .0))
 
 array-share-prefix-made : tie.Need-array-share-prefix-made
-array-share-prefix-made c = omega arith
+array-share-prefix-made c = let print = c .before in omega (arith, size print, made (print .before .before .before) .2)
 
 slice-aggregate-write-bytes : tie.Need-slice-aggregate-write-bytes
-slice-aggregate-write-bytes c = sym (made-length (c .before .before .before .before))
+slice-aggregate-write-bytes c = size (c .before .before) ∙ sym (ap length (lent (c .before .before)))
 
 write-bytes-requires : tie.Need-write-bytes-requires
-write-bytes-requires c κs = omega (arith, made-length (c .before .before .before .before .before), c .before .before .before .if1 .left)
+write-bytes-requires c κs = tt
+
+enum-told : tie.Need-enum-told
+enum-told c = search needs
 
 same-length : tie.Need-same-length
-same-length c = ap length (table-is (c .before .before .before .before .before)) ∙ numbers-length _ _ _ (c .before .before .before .before .before .before .before .before .before .before .before .before .before .before .before .before .before .before .before .pre .4)
-
-same-length-2 : tie.Need-same-length-2
-same-length-2 c = ap length (spare-is (c .before .before .before .before .before)) ∙ numbers-length _ _ _ (c .before .before .before .before .before .before .before .before .before .before .before .before .before .before .before .before .before .before .before .pre .5)
-
-same-length-3 : tie.Need-same-length-3
-same-length-3 c = c .before .output .given
+same-length c = search needs
 
 returns-2 : tie.Need-returns-2
-returns-2 c bytes e =
-    let start = c .before .before .before .before .before .before .before .before .before .before .before .before .before .before .before .before .before .before .before in
-    let wrote = c .before .before .before .before .before .before .before .before .write in
-    let enough : leb (length bytes) (length (start .args .output .now)) ≡ true =
-    le-leb (length bytes) (length (start .args .output .now)) (omega (arith, c .before .before .before .before .before .before .if1 .left, wrote .ensures .0, ap length e)) in
-    let print : take (wrote .result) (wrote .last .1 .1 .1 .1 .1 .1 .1 .1 .0) ≡ bytes = front _ _ _ _ (wrote .ensures .0) (wrote .ensures .1) ∙ sym e in
-    let whole = handed _ (start .args .answer) (length bytes) _ _ bytes _ _ _ _ _ enough (table-is (c .before .before .before .before .before)) (spare-is (c .before .before .before .before .before)) in (
-      rw (wrote .ensures .0, ← e) (whole .0),
-      whole .1,
-      whole .2,
-      c .before .before .write-bytes .ensures .output ∙ rw print (put-front bytes _) ∙ whole .3,
-    )
+returns-2 c =
+    let call = c .before .before .before in
+    let none = bytes-kept (put call) (no-next (c .match2 .keys2)) in
+    not-handed _ _ (none .0) (none .1)
+
+enum-told-2 : tie.Need-enum-told-2
+enum-told-2 c = search needs
+
+copy-requires : tie.Need-copy-requires
+copy-requires c κs =
+    let start = start-of (print-at (c .before .before .before .before .before .before .before) .before .before .before) in
+    omega (arith, own-cells (start .pre .0), cells-fit (start .pre .0 .usable), start .pre .1)
+
+copy-requires-2 : tie.Need-copy-requires-2
+copy-requires-2 c κs =
+    let start = start-of (print-at (c .before .before .before .before .before .before .before .before .before .before .before) .before .before .before) in
+    omega (arith, own-count (start .pre .0), start .pre .0 .usable .engines .room, start .pre .2)
+
+same-length-2 : tie.Need-same-length-2
+same-length-2 c = search needs
+
+same-length-3 : tie.Need-same-length-3
+same-length-3 c = search needs
+
+same-length-4 : tie.Need-same-length-4
+same-length-4 c = search needs
+
+returns-3 : tie.Need-returns-3
+returns-3 c =
+    let spared = c .before .before in
+    let drawn = spared .before .before .before .before in
+    let told = drawn .before .before in
+    let found = told .enum-told2 .given .1 in
+    let handed-at = told .before .before in
+    let call = handed-at .before .before .before .before in
+    let print = print-at call in
+    let start = start-of (print .before .before .before) in
+    let stands = bytes-at-front (put call) (handed-at .enum-told .given .1) in
+    handed (start .pre .0) _ (stands .0) (size print) (drawn .copy .ensures ∙ found-numbers _ _ _ found) (spared .copy2 .ensures ∙ found-numbers _ _ _ found)
+    (stands .2)
+
+same-length-5 : tie.Need-same-length-5
+same-length-5 c = search needs
+
+returns-4 : tie.Need-returns-4
+returns-4 c =
+    let handed-at = c .before in
+    let call = handed-at .before .before .before .before in
+    let print = print-at call in
+    let start = start-of (print .before .before .before) in
+    let stands = bytes-at-front (put call) (handed-at .enum-told .given .1) in
+    let other : start .args .answer .outcome ≡ Found → ⊥ = λ e. miss (1 ∷ 2 ∷ []) 0 tt (rw e at (c .match3 .keys2)) in
+    handed (start .pre .0) _ (stands .0) (size print) (kept-numbers _ _ _ other) (kept-numbers _ _ _ other) (stands .2)
 
 pub hand-over-spec : {M : Type 1} → statement M
 hand-over-spec =
@@ -103,14 +142,20 @@ hand-over-spec =
     (tie.spec
     slice-aggregate-write
     write-requires
+    enum-known-print
     returns
-    enum-told
-    copy-requires
-    copy-requires-2
     array-share-prefix-made
     slice-aggregate-write-bytes
     write-bytes-requires
+    enum-told
     same-length
+    returns-2
+    enum-told-2
+    copy-requires
+    copy-requires-2
     same-length-2
     same-length-3
-    returns-2)
+    same-length-4
+    returns-3
+    same-length-5
+    returns-4)

@@ -51,7 +51,7 @@ same-length : tie.Need-same-length
 same-length c = c .before .before .before .before .before .pieces .given
 
 same-length-2 : tie.Need-same-length-2
-same-length-2 c = c .before .before .before .rest .given
+same-length-2 c = c .before .before .before .spares .given
 
 returns : tie.Need-returns
 returns c =
@@ -63,7 +63,7 @@ same-length-3 : tie.Need-same-length-3
 same-length-3 c = c .before .before .before .before .before .before .pieces .given
 
 same-length-4 : tie.Need-same-length-4
-same-length-4 c = c .before .before .before .before .rest .given
+same-length-4 c = c .before .before .before .before .spares .given
 
 returns-2 : tie.Need-returns-2
 returns-2 c =

@@ -2,37 +2,44 @@
 -- Assumes nothing.
 use mathlib.Core.Path.{_≡_, sym, _∙_}
 use mathlib.Core.Logic.{⊎-elim}
-use mathlib.Core.List.{List, [], _++_}
+use mathlib.Core.List.{List, [], _∷_, _++_}
 use Prim.Native.Nat.{ℕ, _+_, _-_, _≤_}
 use native.Mathlib.Omega.{arith}
 use denote.Ref.{now}
 use lib.ListN.{length, getD}
-use Rattle.filecall.specs.Parts.{nameList}
-use Rattle.filecall.specs.Printing.{pieceBytes, rowBytes}
-use Rattle.filecall.specs.Laws.Names.{names-count, name-listed}
-use Rattle.filecall.specs.Laws.Printing.{Left, all-left, room-for, then, all-put, name-stands, name-writes, rowFrom, row-end, row-piece, row-none}
+use Rattle.lines.specs.Laws.Lines.{LinesLeft, all-left, left-kept, next-put, all-lines}
+use Rattle.lines.specs.Putting.{output}
+use Rattle.planning.specs.Tables.{at}
+use Rattle.planfile.specs.Numerals.{decimal}
+use Rattle.planfile.specs.Print.{Line, lineOf, rowLines}
+use Rattle.planreader.specs.Plans.{nameList}
+use Rattle.planreader.specs.Laws.Names.{names-count, name-listed}
+use Rattle.filecall.specs.Laws.Printing.{held-to, rowFrom, row-end, row-piece, row-none}
 use Rattle.filecall.proofs.print.write_row.Statement.{statement}
 use Rattle.filecall.proofs.print.write_row.Tie as tie
 
 abbrev Inv-loop : tie.InvT-loop
-Inv-loop delivery engines names sizes row out₀ at to₀ i₀ out to i =
-    let list = nameList engines names sizes in
-    (i ≤ engines) × Left (rowFrom delivery list row i) to out out₀ at (rowBytes delivery list row)
+Inv-loop delivery names sizes row out₀ next₀ i₀ out next i =
+    let list = nameList (length row) names sizes in
+    (i ≤ length row) × LinesLeft (rowFrom delivery list row i) (output next out) (rowLines delivery list (at row)) (output next₀ out₀)
 
 abbrev μ-loop : tie.MeasureT-loop
-μ-loop delivery engines names sizes row out₀ at to₀ i₀ out to i = engines - i
+μ-loop delivery names sizes row out₀ next₀ i₀ out next i = length row - i
 
--- the names of the engines, and the lines from engine k on
+-- the row, the names of the engines, and the lines from engine k on
 abbrev start-of : tie.At-loop Inv-loop μ-loop → tie.Start Inv-loop μ-loop
 start-of c = c .before .before .before .before .before .before
 
+abbrev row-of : tie.At-loop Inv-loop μ-loop → List ℕ
+row-of c = now (start-of c .args .row)
+
 abbrev list-of : tie.At-loop Inv-loop μ-loop → List (List ℕ)
-list-of c = let args = start-of c .args in nameList (args .engines) (now (args .names)) (now (args .sizes))
+list-of c = nameList (length (row-of c)) (now (start-of c .args .names)) (now (start-of c .args .sizes))
 
-abbrev lines-from : tie.At-loop Inv-loop μ-loop → (k : ℕ) → List ℕ
-lines-from c k = rowFrom (now (start-of c .args .delivery)) (list-of c) (now (start-of c .args .row)) k
+abbrev lines-from : tie.At-loop Inv-loop μ-loop → (k : ℕ) → List Line
+lines-from c k = rowFrom (now (start-of c .args .delivery)) (list-of c) (row-of c) k
 
-count : (c : tie.At-loop Inv-loop μ-loop) → length (list-of c) ≡ start-of c .args .engines
+count : (c : tie.At-loop Inv-loop μ-loop) → length (list-of c) ≡ length (row-of c)
 count c = names-count _ _ _
 
 -- the name that is found is engine i's, and its piece has the next line
@@ -40,13 +47,10 @@ named : (c : tie.After-name-at Inv-loop μ-loop) → let loop = c .before .befor
     now (c .name-at .result) ≡ getD (list-of loop) (loop .loop .i) []
 named c = c .name-at .ensures ∙ sym (name-listed _ _ _ (c .before .before .before .before .loop .i) (omega arith))
 
-abbrev line-of : tie.After-name-at Inv-loop μ-loop → List ℕ
-line-of c =
-    let loop = c .before .before .before .before in
-    pieceBytes (now (start-of loop .args .delivery)) (now (c .name-at .result)) (getD (now (start-of loop .args .row)) (loop .loop .i) 0)
-
 next-line : (c : tie.After-name-at Inv-loop μ-loop) → let loop = c .before .before .before .before in
-    lines-from loop (loop .loop .i) ≡ line-of c ++ lines-from loop (loop .loop .i + 1)
+    lines-from loop (loop .loop .i)
+    ≡ (lineOf (now (start-of loop .args .delivery)) (now (c .name-at .result)) (decimal (at (row-of loop) (loop .loop .i))) ∷ [])
+    ++ lines-from loop (loop .loop .i + 1)
 next-line c =
     let loop = c .before .before .before .before in
     rw (named c) (row-piece _ _ _ (loop .loop .i) (rw (count loop) (omega arith)) (omega arith) (omega arith))
@@ -59,7 +63,7 @@ no-line c =
     row-none _ _ _ (loop .loop .i) (rw (count loop) (omega arith)) (omega arith) (omega arith)
 
 loop-holds : tie.Need-loop-holds Inv-loop μ-loop
-loop-holds c = (omega arith, all-left _ _ _ (c .before .before .before .before .before .pre .3))
+loop-holds c = (omega arith, all-left)
 
 mul-piece : tie.Need-mul-piece Inv-loop μ-loop
 mul-piece c = omega arith
@@ -68,16 +72,10 @@ shared-slice-read-piece : tie.Need-shared-slice-read-piece Inv-loop μ-loop
 shared-slice-read-piece c = omega arith
 
 name-at-requires : tie.Need-name-at-requires Inv-loop μ-loop
-name-at-requires c κs =
-    let loop = c .before .before .before in
-    name-stands (start-of loop .pre .1) (loop .loop .i) (c .before .before .loop-test .taken)
+name-at-requires c κs = let loop = c .before .before .before in held-to (start-of loop .pre) (omega arith)
 
 write-piece-requires : tie.Need-write-piece-requires Inv-loop μ-loop
-write-piece-requires c κs =
-    let found = c .before in
-    let loop = found .before .before .before .before in
-    let pre = start-of loop .pre in
-    (pre .0, rw (named found) (name-writes (pre .1) (loop .loop .i) (omega arith)), room-for (loop .loop .inv .1) (line-of found) _ (next-line found))
+write-piece-requires c κs = tt
 
 add-i : tie.Need-add-i Inv-loop μ-loop
 add-i c = omega arith
@@ -88,25 +86,24 @@ loop-less c = omega arith
 loop-again : tie.Need-loop-again Inv-loop μ-loop
 loop-again c =
     let loop = c .before .before .before in
-    let args = start-of loop .args in
-    let all = rowBytes (now (args .delivery)) (list-of loop) (now (args .row)) in (
+    let left = loop .loop .inv .1 in (
       omega arith,
-      ⊎-elim {C = Left (lines-from loop (loop .loop .i + 1)) (c .if1 .to) (c .if1 .out) (now (args .out)) (args .at) all}
+      ⊎-elim
           (λ w.
           let found : tie.After-name-at Inv-loop μ-loop = record { before = record { before = c .before; if1 = w .0 }; name-at = w .1 } in
-          rw (w .6, w .7) (then (loop .loop .inv .1) (line-of found) _ (next-line found) (w .3 .ensures)))
-          (λ w. rw (w .1, w .2, ← no-line (record { before = c .before; if1 = w .0 })) (loop .loop .inv .1))
+          rw (w .6, w .7) (next-put left (next-line found) (w .3 .ensures)))
+          (λ w. rw (w .1, w .2) (rw (no-line (record { before = c .before; if1 = w .0 })) at left))
           (c .if1 .came),
     )
 
 same-length : tie.Need-same-length Inv-loop μ-loop
-same-length c = omega arith
+same-length c = left-kept (c .before .loop .inv .1)
 
 returns : tie.Need-returns Inv-loop μ-loop
 returns c =
     let loop = c .before in
     let none : lines-from loop (loop .loop .i) ≡ [] = row-end _ _ _ (loop .loop .i) (rw (count loop) (c .loop-test .left)) in
-    all-put (rw none at (loop .loop .inv .1))
+    all-lines (rw none at (loop .loop .inv .1))
 
 pub write-row-spec : {M : Type 1} → statement M
 write-row-spec =

@@ -1,7 +1,7 @@
--- When a call with a file is accepted, and by which numbers and places it is refused.
+-- When a call with a file is accepted, and with which faults and places it is refused.
 -- Assumes nothing.
 use mathlib.Core.Path.{_≡_, refl, sym}
-use mathlib.Core.Logic.{_↔_, Iff·rfl, _⊎_, inl, inr}
+use mathlib.Core.Logic.{_≢_, _↔_, Iff·rfl, _⊎_, inl, inr}
 use mathlib.Core.Bool.{Bool, true, false}
 use Prim.Native.Nat.{ℕ, _≤_}
 use native.Mathlib.Omega.{arith}
@@ -11,14 +11,12 @@ use Rattle.planning.specs.declared.Fault.the-variants.{Size, Grammar, Fields, K
 use Rattle.planning.specs.declared.Refusal.{Refusal}
 use Rattle.planning.specs.Bounds.{mostCells, mostEngines}
 use Rattle.planning.specs.Laws.Numbers.{eqb-iff, leb-iff}
-use Rattle.planning.specs.Plan.{Within}
-use Rattle.planning.specs.Refusals.{faultNumber}
 use Rattle.planfile.specs.FileCall.{FileCall, printed, readCall}
 use Rattle.planfile.specs.FilePlan.{FilePlan}
 use Rattle.planfile.specs.Laws.Holding.{accepted-holds, holds-accepted}
 use Rattle.planfile.specs.Laws.Refusals.{PlaceOf}
 use Rattle.planfile.specs.Laws.Tests.{accepted-iff, refused-not-accepted, bind-iff, require-iff}
-use Rattle.planfile.specs.Promises.{FileAccepted, Numbered}
+use Rattle.planfile.specs.Promises.{FileAccepted, FaultInFile}
 use Rattle.planfile.specs.Reading.{Read, refused, accepted, _>>=_, fault, require, readFile}
 
 -- a call is accepted where its file is, the lent lists have their lengths and the print has its space
@@ -65,38 +63,30 @@ refused-call call =
     bind-refused (readFile (call .file)) _ λ f.
     space-refused _ _ (space-refused _ _ (space-refused _ _ (λ e. absurd (refused-not-accepted (sym e)))))
 
--- ---- numbers and places
+-- ---- faults and places
 
--- 2 to 7 have the place of a record ..
-with-record : (count place number : ℕ) → 2 ≤ number → number ≤ 7 → Within 1 count place → (number ≤ 8) × Numbered count number place
-with-record count place number least most here = (
-  omega arith,
-  record {
-    listed = record { least = omega arith; most = omega arith };
-    counted = λ inside. here;
-    nowhere = λ outside. absurd (outside (record { least = least; most = most }));
-  },
-)
+-- a file's fault has its place, and is not the want of space
+pub file-fault : (count place : ℕ) (what : Fault) → PlaceOf count what place → FaultInFile count what place × (what ≢ Space)
+unfolding FaultInFile
+file-fault count place Size p = (p, λ e. let z : _≡_ {A = ℕ} 0 1 = cc in omega arith)
+file-fault count place Grammar p = (p, λ e. let z : _≡_ {A = ℕ} 0 1 = cc in omega arith)
+file-fault count place Fields p = (p, λ e. let z : _≡_ {A = ℕ} 0 1 = cc in omega arith)
+file-fault count place Kind p = (p, λ e. let z : _≡_ {A = ℕ} 0 1 = cc in omega arith)
+file-fault count place Name p = (p, λ e. let z : _≡_ {A = ℕ} 0 1 = cc in omega arith)
+file-fault count place Value p = (p, λ e. let z : _≡_ {A = ℕ} 0 1 = cc in omega arith)
+file-fault count place Count p = (p, λ e. let z : _≡_ {A = ℕ} 0 1 = cc in omega arith)
+file-fault count place NoEngine p = (p, λ e. let z : _≡_ {A = ℕ} 0 1 = cc in omega arith)
+file-fault count place Space p = absurd p
 
--- .. and the others 0
-without-record : (count number : ℕ) → Within 1 9 number → (Within 2 7 number → ⊥) → Numbered count number 0
-without-record count number listed outside =
-    record { listed = listed; counted = λ inside. absurd (outside inside); nowhere = λ n. refl }
-
--- the number of a file's fault
-pub file-numbered : (count place : ℕ) (what : Fault) → PlaceOf count what place → (faultNumber what ≤ 8) × Numbered count (faultNumber what) place
-unfolding faultNumber
-file-numbered count place Size p =
-    rw p (omega arith, without-record count 1 (record { least = omega arith; most = omega arith }) (λ w. omega (arith, w .least)))
-file-numbered count place Grammar p = with-record count place 2 (omega arith) (omega arith) p
-file-numbered count place Fields p = with-record count place 3 (omega arith) (omega arith) p
-file-numbered count place Kind p = with-record count place 4 (omega arith) (omega arith) p
-file-numbered count place Name p = with-record count place 5 (omega arith) (omega arith) p
-file-numbered count place Value p = with-record count place 6 (omega arith) (omega arith) p
-file-numbered count place Count p = with-record count place 7 (omega arith) (omega arith) p
-file-numbered count place NoEngine p =
-    rw p (omega arith, without-record count 8 (record { least = omega arith; most = omega arith }) (λ w. omega (arith, w .most)))
-file-numbered count place Space p = absurd p
-
-pub space-numbered : (count : ℕ) → Numbered count 9 0
-space-numbered count = without-record count 9 (record { least = omega arith; most = omega arith }) (λ w. omega (arith, w .most))
+-- its place is at most the count of records
+pub fault-place : (count place : ℕ) (what : Fault) → FaultInFile count what place → place ≤ count
+unfolding FaultInFile
+fault-place count place Size p = omega arith
+fault-place count place Grammar p = p .most
+fault-place count place Fields p = p .most
+fault-place count place Kind p = p .most
+fault-place count place Name p = p .most
+fault-place count place Value p = p .most
+fault-place count place Count p = p .most
+fault-place count place NoEngine p = omega arith
+fault-place count place Space p = omega arith
