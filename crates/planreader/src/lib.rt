@@ -7,10 +7,8 @@ mod opening;
 mod records;
 mod texts;
 
-use opening::Opening;
-use planfile::MOST_BYTES;
+use opening::Beginning;
 use planfile::MOST_NAME_BYTES;
-use planning::Fault;
 use planning::MOST_DELIVERIES;
 use planning::MOST_ENGINES;
 use planning::Mode;
@@ -18,12 +16,8 @@ use planning::Refusal;
 use planning::Verdict;
 use records::Counted;
 ghost use mathlib.Core.Path.{_≡_};
-ghost use Prim.Native.Nat.{_≤_};
-ghost use lib.ListN.{length};
-ghost use Rattle.planfile.specs.Bounds.{mostBytes};
 ghost use Rattle.planfile.specs.Reading.{refused as refusedBy, readFile};
 ghost use Rattle.planreader.specs.Columns.{readingOf};
-ghost use Rattle.planreader.specs.Records.{readBehind};
 
 // The plan of a file by value, as specs/Columns' `byValue` has it: its engines and its deliveries as columns, filled from the front and 0 behind
 // the count. A name has 16 bytes, of which the first so many count; the others are 0.
@@ -50,8 +44,8 @@ pub struct Reading {
 }
 
 // A refusal, beside an empty plan.
-fn refused(fault: Fault, place: u64) -> Reading
-    ensures { λ r. ⌜ r ≡ readingOf (refusedBy (record { fault = fault; place = place })) ⌝ }
+fn refused(refusal: Refusal) -> Reading
+    ensures { λ r. ⌜ r ≡ readingOf (refusedBy refusal) ⌝ }
 {
     let plan = FilePlan {
         mode: Mode::Fixed,
@@ -69,82 +63,64 @@ fn refused(fault: Fault, place: u64) -> Reading
         limits: [0; MOST_DELIVERIES],
     };
     Reading {
-        verdict: Verdict::Refused(Refusal { fault, place }),
+        verdict: Verdict::Refused(refusal),
         plan,
     }
 }
 
-// Reads records 2 and further, from a place of the file on, behind record 1.
-fn read_items(file: &[u8], start: usize, mode: Mode, minutes: u64, allowance: u64) -> Reading
-    requires { ⌜ length (now file) ≤ mostBytes ⌝ }
-    ensures { λ r. ⌜ r ≡ readingOf (readBehind (now (file .entry)) start mode minutes allowance) ⌝ }
-{
-    let mut engine_names = [0u8; MOST_NAME_BYTES * MOST_ENGINES];
-    let mut engine_sizes = [0u8; MOST_ENGINES];
-    let mut watts = [0u64; MOST_ENGINES];
-    let mut fuels = [0u64; MOST_ENGINES];
-    let mut delivery_names = [0u8; MOST_NAME_BYTES * MOST_DELIVERIES];
-    let mut delivery_sizes = [0u8; MOST_DELIVERIES];
-    let mut energies = [0u64; MOST_DELIVERIES];
-    let mut limits = [0u64; MOST_DELIVERIES];
-    let counted = records::read(
-        file,
-        start,
-        &mut engine_names,
-        &mut engine_sizes,
-        &mut watts,
-        &mut fuels,
-        &mut delivery_names,
-        &mut delivery_sizes,
-        &mut energies,
-        &mut limits,
-    );
-    match counted {
-        Counted::Refused(refusal) => {
-            let fault = refusal.fault;
-            refused(fault, refusal.place)
-        }
-        Counted::Items(engines, deliveries) => {
-            let plan = FilePlan {
-                mode,
-                minutes,
-                allowance,
-                engines,
-                engine_names,
-                engine_sizes,
-                watts,
-                fuels,
-                deliveries,
-                delivery_names,
-                delivery_sizes,
-                energies,
-                limits,
-            };
-            Reading {
-                verdict: Verdict::Accepted,
-                plan,
-            }
-        }
-    }
-}
-
-// Reads a whole file: 1, then record 1, then the others.
+// Reads a whole file: its beginning, then the other records. The reading is made and handed back here alone: handed on from a second function
+// its columns are copied once more, and a refusal fills them twice.
 pub fn read(file: &[u8]) -> Reading
     ensures { λ r. ⌜ r ≡ readingOf (readFile (now (file .entry))) ⌝ }
 {
-    if file.len() == 0 || MOST_BYTES < file.len() {
-        return refused(Fault::Size, 0);
-    }
-    let fields = entry::cut(file, 0);
-    if !fields.sound {
-        return refused(Fault::Grammar, 1);
-    }
-    let stop = fields.stop;
-    let opening = opening::read(&file[..stop], fields);
-    match opening {
-        Opening::Fault(fault) => refused(fault, 1),
-        Opening::Plan(mode, minutes, allowance) => {
-            read_items(file, fields.next, mode, minutes, allowance)
+    let beginning = opening::begin(file);
+    match beginning {
+        Beginning::Refused(refusal) => return refused(refusal),
+        Beginning::Plan(mode, minutes, allowance, start) => {
+            let mut engine_names = [0u8; MOST_NAME_BYTES * MOST_ENGINES];
+            let mut engine_sizes = [0u8; MOST_ENGINES];
+            let mut watts = [0u64; MOST_ENGINES];
+            let mut fuels = [0u64; MOST_ENGINES];
+            let mut delivery_names = [0u8; MOST_NAME_BYTES * MOST_DELIVERIES];
+            let mut delivery_sizes = [0u8; MOST_DELIVERIES];
+            let mut energies = [0u64; MOST_DELIVERIES];
+            let mut limits = [0u64; MOST_DELIVERIES];
+            let counted = records::read(
+                file,
+                start,
+                &mut engine_names,
+                &mut engine_sizes,
+                &mut watts,
+                &mut fuels,
+                &mut delivery_names,
+                &mut delivery_sizes,
+                &mut energies,
+                &mut limits,
+            );
+            match counted {
+                Counted::Refused(refusal) => return refused(refusal),
+                Counted::Items(engines, deliveries) => {
+                    let plan = FilePlan {
+                        mode,
+                        minutes,
+                        allowance,
+                        engines,
+                        engine_names,
+                        engine_sizes,
+                        watts,
+                        fuels,
+                        deliveries,
+                        delivery_names,
+                        delivery_sizes,
+                        energies,
+                        limits,
+                    };
+                    return Reading {
+                        verdict: Verdict::Accepted,
+                        plan,
+                    };
+                }
+            }
         }
     }
 }

@@ -1,132 +1,126 @@
--- `read` meets its contract: the size, record 1, then the others. Assumes nothing.
-use mathlib.Core.Path.{_≡_, sym, ap, _∙_}
-use mathlib.Core.Logic.{⊎-elim}
+-- `read` meets its contract: the beginning, then the other records into columns. Assumes nothing.
+use mathlib.Core.Path.{_≡_, sym, ap, _∙_, subst}
 use mathlib.Core.List.{List}
 use Prim.Native.Nat.{ℕ, _≤_}
-use native.Mathlib.Nat.{sub-zero}
-use native.Mathlib.Omega.{arith}
-use lib.ListN.{length, take}
-use lib.Seq.{length-take-le}
-use borrow.Author.Tests.{ltb-true, ltb-false}
-use Rattle.rfc4180.specs.Records.{firstRecord}
+use lib.ListN.{length}
+use Rattle.planning.specs.declared.Mode.{Mode}
+use Rattle.planning.specs.Bounds.{mostEngines, mostDeliveries}
 use Rattle.planfile.specs.Bounds.{mostBytes}
-use Rattle.planfile.specs.Reading.{fault}
-use Rattle.planreader.specs.Columns.{readingOf}
-use Rattle.planreader.specs.Laws.Cuts.{text-stands}
-use Rattle.planreader.specs.Laws.FileRead.{file-empty, file-long, opening-faulty, opening-begins}
-use Rattle.planreader.specs.Laws.FourFields.{text-broken}
-use Rattle.planreader.specs.Laws.Opening.{opening-faulty as text-faulty}
-use Rattle.planreader.specs.Laws.Parts.{not-true, not-false}
-use Rattle.planreader.specs.Opening.{openingRead, readOpening}
+use Rattle.planfile.specs.Reading.{readFile}
+use Rattle.planreader.specs.declared.records.Counted.{Counted}
+use Rattle.planreader.specs.Columns.{Columns, readingOf}
+use Rattle.planreader.specs.Laws.Columns.{filled-nothing}
+use Rattle.planreader.specs.Laws.FileRead.{counted-refused, counted-items}
+use Rattle.planreader.specs.Opening.{BeginsBy}
+use Rattle.planreader.specs.Records.{readBehind, ItemsBy, ItemsRead}
 use Rattle.planreader.proofs.read.Statement.{statement}
 use Rattle.planreader.proofs.read.Tie as tie
 
--- the states, each with the one before it: a file of the right size, record 1 cut, sound, read
-abbrev start-of : tie.Else2 → tie.Start
-start-of c = c .before .before .before
+abbrev file-of : tie.After-begin → List ℕ
+file-of c = c .before .before .args .file .now
 
-abbrev sized : tie.After-cut → tie.Else2
-sized c = c .before
+-- the beginning, which is a plan's, behind which the columns are filled
+abbrev begun : tie.After-limits → tie.After-beginning2
+begun c = c .before .before .before .before .before .before .before .before .before
 
-abbrev cut : tie.Else3 → tie.After-cut
-cut c = c .before .before
+abbrev file : tie.After-limits → List ℕ
+file c = file-of (begun c .before .before)
 
-abbrev sound : tie.After-read → tie.Else3
-sound c = c .before .before
+-- record 1's values, and where record 2 begins
+abbrev mode : tie.After-limits → Mode
+mode c = begun c .beginning2 .given .0 .0
 
-abbrev file : tie.Else2 → List ℕ
-file c = start-of c .args .file .now
+abbrev minutes : tie.After-limits → ℕ
+minutes c = begun c .beginning2 .given .0 .1 .0
 
--- the file's size is right
-least : (c : tie.Else2) → 1 ≤ length (file c)
-least c = omega (arith, c .before .if1 .left)
+abbrev allowance : tie.After-limits → ℕ
+allowance c = begun c .beginning2 .given .0 .1 .1 .0
 
-most : (c : tie.Else2) → length (file c) ≤ mostBytes
-most c = ltb-false _ _ (c .if2 .left)
+abbrev start : tie.After-limits → ℕ
+start c = begun c .beginning2 .given .0 .1 .1 .1 .0
 
--- record 1 stands at its front, and is read
-stands : (c : tie.Else3) → let stop = cut c .cut .result .stop in
-    (stop ≤ length (file (sized (cut c)))) × (take stop (file (sized (cut c))) ≡ firstRecord (file (sized (cut c))) .text)
-stands c =
-    let text = text-stands (cut c .cut .ensures) (not-false _ (c .if3 .left)) (omega arith) in
-    (text .1, rw sub-zero at (text .2))
+behind : (c : tie.After-limits) → (length (file c) ≤ mostBytes) × (readFile (file c) ≡ readBehind (file c) (start c) (mode c) (minutes c) (allowance c))
+unfolding BeginsBy
+behind c = subst (BeginsBy (file c)) (begun c .beginning2 .given .1) (begun c .before .before .begin .ensures)
 
-opening : (c : tie.After-read) → openingRead (c .read .result) ≡ readOpening (firstRecord (file (sized (cut (sound c)))) .text)
-opening c = c .read .ensures ∙ ap readOpening (stands (sound c) .1)
+-- the columns as they came back
+abbrev engine-columns : tie.After-read → Columns
+engine-columns c =
+    record { names = c .read .last .1 .1 .0; sizes = c .read .last .1 .1 .1 .0; firsts = c .read .last .1 .1 .1 .1 .0; seconds = c .read .last .1 .1 .1 .1 .1 .0 }
+
+abbrev delivery-columns : tie.After-read → Columns
+delivery-columns c =
+    record {
+      names = c .read .last .1 .1 .1 .1 .1 .1 .0;
+      sizes = c .read .last .1 .1 .1 .1 .1 .1 .1 .0;
+      firsts = c .read .last .1 .1 .1 .1 .1 .1 .1 .1 .0;
+      seconds = c .read .last .1 .1 .1 .1 .1 .1 .1 .1 .1 .0;
+    }
+
+-- what they hold
+told : (c : tie.After-read) {how : Counted} → c .read .result ≡ how → let past = c .before in
+    ItemsBy (readFile (file past)) (mode past) (minutes past) (allowance past) (engine-columns c) (delivery-columns c) how
+unfolding ItemsRead
+told c is =
+    let past = c .before in
+    rw (behind past .1)
+    (subst (ItemsBy (readBehind (file past) (start past) (mode past) (minutes past) (allowance past)) (mode past) (minutes past) (allowance past)
+    (engine-columns c) (delivery-columns c)) is (c .read .ensures (mode past) (minutes past) (allowance past)))
+
+begin-requires : tie.Need-begin-requires
+begin-requires c κs = tt
+
+enum-known-beginning : tie.Need-enum-known-beginning
+enum-known-beginning c = c .match .keys1
 
 refused-requires : tie.Need-refused-requires
 refused-requires c κs = tt
 
 returns : tie.Need-returns
-unfolding fault
+unfolding BeginsBy
 returns c =
-    c .refused .ensures
-    ∙ ap readingOf (sym (⊎-elim (λ w. file-empty _ (w .taken)) (λ w. file-long _ (ltb-true _ _ (w .1 .taken))) (c .before .if1 .came)))
+    let begun = c .before .before in
+    let call = begun .before .before in
+    c .refused .ensures ∙ ap readingOf (sym (subst (BeginsBy (file-of call)) (begun .beginning .given .1) (call .begin .ensures)))
 
-cut-requires : tie.Need-cut-requires
-cut-requires c κs = omega arith
+enum-known-beginning-2 : tie.Need-enum-known-beginning-2
+enum-known-beginning-2 c = c .match .keys2
+
+read-requires : tie.Need-read-requires
+read-requires c κs = (behind c .0, filled-nothing mostEngines, filled-nothing mostDeliveries)
+
+enum-known-counted : tie.Need-enum-known-counted
+enum-known-counted c = c .match2 .keys1
 
 refused-requires-2 : tie.Need-refused-requires-2
 refused-requires-2 c κs = tt
 
--- it breaks the grammar
 returns-2 : tie.Need-returns-2
-unfolding fault
 returns-2 c =
-    let call = c .before .before .before in
-    let broken = text-broken _ (call .cut .ensures .broken (not-true _ (c .before .if3 .taken))) 1 in
-    c .refused2 .ensures ∙ ap readingOf (sym (opening-faulty _ (least (sized call)) (most (sized call)) _ (text-faulty _ _ broken)))
+    let counted = c .before .before in
+    let call = counted .before .before in
+    c .refused2 .ensures ∙ ap readingOf (sym (counted-refused _ _ _ _ _ _ _ (told call (counted .counted .given .1))))
 
-slice-aggregate-read : tie.Need-slice-aggregate-read
-slice-aggregate-read c = sym (length-take-le _ _ (stands (c .before) .0))
-
-read-requires : tie.Need-read-requires
-read-requires c κs = let past = c .before in rw (stands past .1) (cut past .cut .ensures .cut (not-false _ (past .if3 .left)))
-
-enum-known-opening : tie.Need-enum-known-opening
-enum-known-opening c = c .match .keys1
-
-refused-requires-3 : tie.Need-refused-requires-3
-refused-requires-3 c κs = tt
-
-enum-known-opening-2 : tie.Need-enum-known-opening-2
-enum-known-opening-2 c = c .match .keys2
-
-read-items-requires : tie.Need-read-items-requires
-read-items-requires c κs = most (sized (cut (sound (c .before .before .before))))
+enum-known-counted-2 : tie.Need-enum-known-counted-2
+enum-known-counted-2 c = c .match2 .keys2
 
 returns-3 : tie.Need-returns-3
-unfolding fault openingRead
 returns-3 c =
-    let call = c .before .before .before .before in
-    let size = sized (cut (sound call)) in
-    let read = sym (opening call) ∙ ap openingRead (c .before .before .opening .given .1) in
-    c .refused3 .ensures ∙ ap readingOf (sym (opening-faulty _ (least size) (most size) _ read))
-
-returns-4 : tie.Need-returns-4
-unfolding openingRead
-returns-4 c =
-    let call = c .before .before .before .before in
-    let past = sound call in
-    let size = sized (cut past) in
-    let next = cut past .cut .ensures .next (not-false _ (past .if3 .left)) in
-    let read = sym (opening call) ∙ ap openingRead (c .before .before .opening2 .given .1) in
-    c .read-items .ensures ∙ ap readingOf (sym (opening-begins _ (least size) (most size) _ _ _ _ next read))
+    let counted = c .before in
+    counted-items _ _ _ _ _ _ _ _ (told (counted .before .before) (counted .counted2 .given .1))
 
 pub read-spec : {M : Type 1} → statement M
 read-spec =
     tie.close
     (tie.spec
+    begin-requires
+    enum-known-beginning
     refused-requires
     returns
-    cut-requires
+    enum-known-beginning-2
+    read-requires
+    enum-known-counted
     refused-requires-2
     returns-2
-    slice-aggregate-read
-    read-requires
-    enum-known-opening
-    refused-requires-3
-    enum-known-opening-2
-    read-items-requires
-    returns-3
-    returns-4)
+    enum-known-counted-2
+    returns-3)
