@@ -25,8 +25,10 @@ pub fn write_bytes(bytes: &[u8], out: &mut [u8], to: Wrote) -> Wrote
         (output to (now (out .entry))) (output r (now (out .exit)))
         ⌝ }
 {
-    let Wrote::Next(at) = to else {
-        return to;
+    let at = match to {
+        Wrote::Next(at) => at,
+        Wrote::Refused => return Wrote::Refused,
+        Wrote::TooLong => return Wrote::TooLong,
     };
     if out.len() < at {
         return Wrote::TooLong;

@@ -75,15 +75,17 @@ fn store_quoted(value: &[u8], out: &mut [u8], at: usize)
 fn write_value(value: &[u8], out: &mut [u8], to: Wrote) -> Wrote
     ensures { λ r. ⌜ Puts (fieldOf (now (value .entry)) ∷ []) (output to (now (out .entry))) (output r (now (out .exit))) ⌝ }
 {
-    let Wrote::Next(at) = to else {
-        return to;
+    let at = match to {
+        Wrote::Next(at) => at,
+        Wrote::Refused => return Wrote::Refused,
+        Wrote::TooLong => return Wrote::TooLong,
     };
     let m = measure(value);
     if !m.writable {
         return Wrote::Refused;
     }
     if !m.quoted {
-        return write_bytes(value, out, to);
+        return write_bytes(value, out, Wrote::Next(at));
     }
     if out.len() < at {
         return Wrote::TooLong;

@@ -19,11 +19,16 @@ use Rattle.lines.specs.Putting.{plain, field, output, putAt, putNext, pu
 use Rattle.lines.specs.Laws.Lines.{field-text}
 use Rattle.lines.specs.Laws.Putting.{put-stopped, put-long, put-fits}
 use Rattle.lines.specs.Laws.Values.{written-plain}
-use Rattle.lines.proofs.Stopped.{no-next}
+use Rattle.lines.proofs.Stopped.{refused-ends, too-long-ends}
 use Rattle.lines.proofs.field.write_value.Statement.{statement}
 use Rattle.lines.proofs.field.write_value.Tie as tie
 
 -- ---- what is put, by the value's case
+
+stopped : (value lent : List ℕ) {to next : Wrote} → to ≡ next → ((at : ℕ) → next ≡ Next at → ⊥)
+    → Puts (field value ∷ []) (output to lent) (output next lent)
+unfolding putAll
+stopped value lent {next = next} e n = rw e (record { all = sym (put-stopped (field value) next lent n) })
 
 module _ (value lent : List ℕ) {to : Wrote} {at : ℕ} (here : to ≡ Next at) where
   abbrev PutField : (next : Wrote) (out : List ℕ) → Type 0
@@ -93,16 +98,24 @@ quotes-most c = omega (arith, quotes-are c, quotes-inside (value-of (measured c)
 enum-known-to : tie.Need-enum-known-to
 enum-known-to c = c .match .keys1
 
+enum-told : tie.Need-enum-told
+enum-told c = search needs
+
 returns : tie.Need-returns
-unfolding putAll
-returns c = record { all = sym (put-stopped _ _ _ (no-next (c .match .keys2))) }
+returns c = stopped _ _ (c .enum-told .given .1) refused-ends
+
+enum-told-2 : tie.Need-enum-told-2
+enum-told-2 c = search needs
+
+returns-2 : tie.Need-returns-2
+returns-2 c = stopped _ _ (c .enum-told2 .given .1) too-long-ends
 
 measure-requires : tie.Need-measure-requires
 measure-requires c κs = tt
 
-returns-2 : tie.Need-returns-2
+returns-3 : tie.Need-returns-3
 unfolding valueMeasure
-returns-2 c =
+returns-3 c =
     let m = c .before .before in
     refused (value-of m) (lent-to m) (here m) (sym (ap (λ (m : ValueMeasure). m .writable) (m .measure .ensures)) ∙ not-true _ (c .if1 .taken))
 
@@ -112,17 +125,17 @@ write-bytes-requires c κs = tt
 same-length : tie.Need-same-length
 same-length c = search needs
 
-returns-3 : tie.Need-returns-3
+returns-4 : tie.Need-returns-4
 unfolding valueMeasure
-returns-3 c =
+returns-4 c =
     let call = c .before .before in
     let test = call .before .before in
     let m = test .before .before .before .before in
     let plainly = sym (ap (λ (m : ValueMeasure). m .quoted) (m .measure .ensures)) ∙ not-true _ (test .if2 .taken) in
     as-it-is (value-of m) (lent-to m) (here m) (writes (test .before .before)) plainly (call .write-bytes .ensures .puts)
 
-returns-4 : tie.Need-returns-4
-returns-4 c =
+returns-5 : tie.Need-returns-5
+returns-5 c =
     let m = measured (c .before) in
     too-long (value-of m) (lent-to m) (here m) (writes (c .before .before .before)) (omega arith)
 
@@ -139,8 +152,8 @@ add-n-2 c =
 sub-if4 : tie.Need-sub-if4
 sub-if4 c = omega arith
 
-returns-5 : tie.Need-returns-5
-returns-5 c =
+returns-6 : tie.Need-returns-6
+returns-6 c =
     let quoted = c .before .before .before in
     let m = measured quoted in
     too-long (value-of m) (lent-to m) (here m) (writes (quoted .before .before)) (omega (arith, quoted-length quoted))
@@ -150,17 +163,17 @@ store-quoted-requires c κs =
     let quoted = c .before .before .before .before in
     (in-quotes quoted, omega (arith, quoted-length quoted))
 
-add-t10 : tie.Need-add-t10
-add-t10 c = omega arith
+add-t13 : tie.Need-add-t13
+add-t13 c = omega arith
 
-add-t11 : tie.Need-add-t11
-add-t11 c = omega arith
+add-t14 : tie.Need-add-t14
+add-t14 c = omega arith
 
 same-length-2 : tie.Need-same-length-2
 same-length-2 c = c .before .out2 .given
 
-returns-6 : tie.Need-returns-6
-returns-6 c =
+returns-7 : tie.Need-returns-7
+returns-7 c =
     let call = c .before .before in
     let quoted = call .before .before .before .before .before in
     let m = measured quoted in
@@ -171,19 +184,22 @@ write-value-spec =
     tie.close
     (tie.spec
     enum-known-to
+    enum-told
     returns
-    measure-requires
+    enum-told-2
     returns-2
+    measure-requires
+    returns-3
     write-bytes-requires
     same-length
-    returns-3
     returns-4
+    returns-5
     add-n
     add-n-2
     sub-if4
-    returns-5
+    returns-6
     store-quoted-requires
-    add-t10
-    add-t11
+    add-t13
+    add-t14
     same-length-2
-    returns-6)
+    returns-7)
