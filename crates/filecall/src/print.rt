@@ -20,7 +20,7 @@ ghost use Rattle.planfile.specs.Promises.{RefusalWritten};
 ghost use Rattle.planreader.specs.Plans.{nameAt, nameList, NamesHeld, UsablePlan};
 ghost use Rattle.filecall.specs.Printing.{engineList, deliveryList, printLines};
 
-// The line of a piece.
+// The line of a piece. Its word needs no quotes, and is put as it is.
 fn write_piece<'a>(
     delivery: &'a [u8],
     engine: &'a [u8],
@@ -33,7 +33,8 @@ fn write_piece<'a>(
         (output to (now (out .entry))) (output r (now (out .exit)))
         ⌝ }
 {
-    let next = lines::write_field(b"piece", b",", out, to);
+    let next = lines::write_bytes(b"piece", out, to);
+    let next = lines::write_bytes(b",", out, next);
     let next = lines::write_field(delivery, b",", out, next);
     let next = lines::write_field(engine, b",", out, next);
     lines::write_number(piece, b"\r\n", out, next)
