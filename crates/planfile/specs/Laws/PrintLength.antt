@@ -5,10 +5,8 @@ use Prim.Native.Nat.{ℕ, zero, suc, _+_, _*_, _^_, _≤_, _<_}
 use native.Mathlib.Omega.{arith}
 use mathlib.Core.Bool.{Bool, true, false, cond}
 use mathlib.Core.List.{List, [], _∷_, map}
-use lib.Dec.{eqb}
 use lib.ListN.{length, length-append}
-use Rattle.rfc4180.specs.Bytes.{quote}
-use Rattle.rfc4180.specs.Laws.Writer.{length-written}
+use Rattle.rfc4180.specs.Laws.Writer.{length-written, quote-count-le}
 use Rattle.rfc4180.specs.Text.{ascii}
 use Rattle.rfc4180.specs.Writer.{needsQuotes, written, writtenLine, writtenFile, quoteCount}
 use Rattle.planning.specs.declared.Outcome.{Outcome}
@@ -35,22 +33,12 @@ use Rattle.planfile.specs.Print.{Line, wordOf, linesOf, answerLines, pri
 
 -- ---- how long a line is
 
--- a value holds no more quotes than bytes
-pub quotes-inside : (value : List ℕ) → quoteCount value ≤ length value
-unfolding quoteCount
-quotes-inside [] = omega arith
-quotes-inside (b ∷ bs) = go (eqb b quote) (quotes-inside bs)
-  where
-    go : (t : Bool) → quoteCount bs ≤ length bs → cond t (suc (quoteCount bs)) (quoteCount bs) ≤ suc (length bs)
-    go true h = omega arith
-    go false h = omega arith
-
 -- a name of 16 bytes may need 34
 pub name-length : (name : List ℕ) → SoundName name → length (written name) ≤ 34
 name-length name s = rw (length-written name) (go (needsQuotes name))
   where
     go : (t : Bool) → cond t (length name + quoteCount name + 2) (length name) ≤ 34
-    go true = omega (arith, quotes-inside name, s .size)
+    go true = omega (arith, quote-count-le name, s .size)
     go false = omega (arith, s .size)
 
 -- a number needs no quotes

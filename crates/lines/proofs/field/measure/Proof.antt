@@ -13,9 +13,9 @@ use denote.Ref.{now}
 use denote.Enum.Declared.{tagOf}
 use Rattle.rfc4180.specs.declared.ByteClass.{ByteClass}
 use Rattle.rfc4180.specs.declared.ByteClass.the-variants.{Text, Quote, Comma, CarriageReturn, LineFeed, Refused}
+use Rattle.rfc4180.specs.Laws.Writer.{quote-count-le}
 use Rattle.lines.specs.Putting.{valueMeasure}
 use Rattle.rfc4180.specs.Writer.{isAllowed, asksForQuotes, needsQuotes, quoteCount, writable as writable-bytes}
-use Rattle.planfile.specs.Laws.PrintLength.{quotes-inside}
 use Rattle.lines.specs.Laws.Values.{quotesIn, writable-at, needs-quotes-at, quote-count-at}
 use Rattle.rfc4180.proofs.ByteClass.{the-type}
 use Rattle.lines.proofs.field.measure.Statement.{statement}
@@ -85,7 +85,7 @@ enum-told-2 : tie.Need-enum-told-2 Inv-loop μ-loop
 enum-told-2 c = c .match .keys2
 
 add-quotes : tie.Need-add-quotes Inv-loop μ-loop
-add-quotes c = omega (arith, quotes-inside (now (c .before .before .before .before .before .before .before .args .value)))
+add-quotes c = omega (arith, quote-count-le (now (c .before .before .before .before .before .before .before .args .value)))
 
 enum-told-3 : tie.Need-enum-told-3 Inv-loop μ-loop
 enum-told-3 c = c .match .keys4

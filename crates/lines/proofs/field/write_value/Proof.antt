@@ -9,9 +9,8 @@ use denote.Ref.{now}
 use lib.ListN.{length}
 use borrow.Author.Needs.{needs}
 use borrow.Author.Tests.{not-true, not-false}
-use Rattle.rfc4180.specs.Laws.Writer.{length-written}
+use Rattle.rfc4180.specs.Laws.Writer.{length-written, quote-count-le}
 use Rattle.rfc4180.specs.Writer.{written, needsQuotes, writable, quoteCount}
-use Rattle.planfile.specs.Laws.PrintLength.{quotes-inside}
 use Rattle.lines.specs.declared.Wrote.{Wrote}
 use Rattle.lines.specs.declared.Wrote.the-variants.{Next, Refused, TooLong}
 use Rattle.lines.specs.declared.field.ValueMeasure.{ValueMeasure}
@@ -91,7 +90,7 @@ quoted-length c =
 
 -- no more quotes than bytes, so their sum fits
 quotes-most : (c : tie.Else2) → measured c .measure .result .quotes ≤ length (value-of (measured c))
-quotes-most c = omega (arith, quotes-are c, quotes-inside (value-of (measured c)))
+quotes-most c = omega (arith, quotes-are c, quote-count-le (value-of (measured c)))
 
 -- ---- the needs
 
