@@ -12,27 +12,32 @@ use planning::Outcome;
 use planning::Refusal;
 use planreader::FilePlan;
 ghost use mathlib.Core.Path.{_≡_};
-ghost use Prim.Native.Nat.{_*_, _≤_};
+ghost use mathlib.Core.List.{List, [], _∷_};
+ghost use Prim.Native.Nat.{ℕ, _*_};
 ghost use lib.ListN.{length};
+ghost use Rattle.lines.specs.declared.Wrote.the-variants.{Next};
+ghost use Rattle.lines.specs.Putting.{plain, output, Puts};
 ghost use Rattle.planning.specs.Bounds.{mostCells, mostEngines};
-ghost use Rattle.planning.specs.Tables.{overFront};
+ghost use Rattle.planfile.specs.FileCall.{printed};
 ghost use Rattle.planreader.specs.Plans.{UsablePlan, planBy};
 ghost use Rattle.filecall.specs.HandOver.{Answers, lentLists, HandedOver};
 
-// Copies numbers to the front of a list.
-fn copy(numbers: &[u64], to: &mut [u64])
-    requires { ⌜ length (now numbers) ≤ length (now to) ⌝ }
-    ensures { λ r. ⌜ now (to .exit) ≡ overFront (now (numbers .entry)) (now (to .entry)) ⌝ }
+// Prints an answer at the front of an output. The print is made aside, so that nothing is written where it does not fit.
+fn print_whole(plan: FilePlan, answer: Answer, pieces: &[u64], out: &mut [u8]) -> Wrote
+    requires { ⌜ ((spares : List ℕ) × Answers plan answer (now pieces) spares) ⌝ }
+    ensures { λ r. ⌜ Puts (plain (printed (planBy plan)) ∷ []) (output (Next 0) (now (out .entry))) (output r (now (out .exit))) ⌝ }
 {
-    let mut i = 0;
-    while i < numbers.len() {
-        to[i] = numbers[i];
-        i += 1;
-    }
+    let mut made = [0u8; LONGEST_PRINT];
+    let print = print::write(plan, answer, pieces, &mut made);
+    // never anything else: every print fits there
+    let Wrote::Next(n) = print else {
+        return print;
+    };
+    lines::write_bytes(&made[..n], out, Wrote::Next(0))
 }
 
-// Prints an answer and, where the print fits into the output, hands over the print and, with found, the pieces and the spares. The print is
-// made aside, so that 9 is decided before anything is written.
+// Prints an answer and, where the print fits into the output, hands over the print and, with found, the pieces and the spares. The print goes
+// first, so that 9 is decided before a table is written.
 fn hand_over<'a>(
     plan: FilePlan,
     answer: Answer,
@@ -53,17 +58,8 @@ fn hand_over<'a>(
         (lentLists (now (table .exit)) (now (spare .exit)) (now (output .exit)))
         ⌝ }
 {
-    let mut made = [0u8; LONGEST_PRINT];
-    let print = print::write(plan, answer, pieces, &mut made);
-    // never anything else: every print fits there
+    let print = print_whole(plan, answer, pieces, output);
     let Wrote::Next(n) = print else {
-        return FileAnswer::Refused(Refusal {
-            fault: Fault::Space,
-            place: 0,
-        });
-    };
-    let handed = lines::write_bytes(&made[..n], output, Wrote::Next(0));
-    let Wrote::Next(_) = handed else {
         return FileAnswer::Refused(Refusal {
             fault: Fault::Space,
             place: 0,
@@ -71,8 +67,8 @@ fn hand_over<'a>(
     };
     let outcome = answer.outcome;
     if let Outcome::Found = outcome {
-        copy(pieces, table);
-        copy(spares, spare);
+        planning::copy(pieces, table);
+        planning::copy(spares, spare);
     }
     FileAnswer::Printed(answer, n)
 }

@@ -4,12 +4,12 @@ use mathlib.Core.List.{List, [], _∷_, _++_, map, zipWith}
 use Prim.Native.Nat.{ℕ, zero, suc, _*_, _≤_, _<_}
 use native.Mathlib.Nat.{mul-le-mul}
 use native.Mathlib.Omega.{arith}
-use lib.ListN.{length, take, length-append, length-drop}
-use lib.Seq.{length-take-le, take-append-seam}
+use lib.ListN.{length, take}
+use lib.Seq.{length-take-le, take-all, take-append-seam}
 use borrow.Author.Tests.{le-leb, lt-leb}
 use Rattle.lines.specs.declared.Wrote.{Wrote}
 use Rattle.lines.specs.declared.Wrote.the-variants.{Next}
-use Rattle.lines.specs.Laws.Front.{atFront, lines-at-front}
+use Rattle.lines.specs.Laws.Front.{atFront, behind, lines-at-front}
 use Rattle.lines.specs.Lines.{PutLines}
 use Rattle.lines.specs.Putting.{Output, output}
 use Rattle.planning.specs.declared.Allocation.{Allocation}
@@ -202,20 +202,26 @@ module _ {p : ByValue} {answer : Answer} {pieces left : List ℕ} (a : Answers p
       )
       (print-by-names (planBy p) (planned plan) pieces (λ tries table e. own-table e))
 
-  -- so the print stands at the front of an output that holds every print
-  pub print-made : {lent out : List ℕ} {next : Wrote} → longestPrint ≤ length lent
-      → PutLines (printLines answer (deliveryList p) (engineList p) pieces) (output (Next 0) lent) (output next out)
-      → (next ≡ Next (length (printed (planBy p)))) × (take (length (printed (planBy p))) out ≡ printed (planBy p)) × (length (printed (planBy p)) ≤ longestPrint)
+  -- so the lines put into an output that holds every print stand at its front
+  print-short : length (printed (planBy p)) ≤ longestPrint
   unfolding printed printOf
-  print-made {lent} room put =
-      let u = a .usable in
-      let short = print-length (planBy p) (u .enginesNamed) (u .deliveriesNamed) (u .inRange) in
-      let made =
-      lines-at-front (print-writable (planBy p) (u .enginesNamed) (u .deliveriesNamed) (planned plan)) (omega (arith, short)) (rw lines-are at put) in (
-        ap (λ (o : Output). o .next) made,
-        ap (λ (o : Output). take (length (printed (planBy p))) (o .bytes)) made ∙ take-append-seam (printed (planBy p)) _,
-        short,
-      )
+  print-short = let u = a .usable in print-length (planBy p) (u .enginesNamed) (u .deliveriesNamed) (u .inRange)
+
+  module _ {lent out : List ℕ} {next : Wrote} (room : longestPrint ≤ length lent)
+      (put : PutLines (printLines answer (deliveryList p) (engineList p) pieces) (output (Next 0) lent) (output next out)) where
+    print-stands : output next out ≡ behind (printed (planBy p)) lent
+    unfolding printed printOf
+    print-stands =
+        let u = a .usable in
+        lines-at-front (print-writable (planBy p) (u .enginesNamed) (u .deliveriesNamed) (planned plan)) (omega (arith, print-short)) (rw lines-are at put)
+
+    pub print-made : (next ≡ Next (length (printed (planBy p)))) × (take (length (printed (planBy p))) out ≡ printed (planBy p))
+        × (length (printed (planBy p)) ≤ longestPrint)
+    print-made = (
+      ap (λ (o : Output). o .next) print-stands,
+      ap (λ (o : Output). take (length (printed (planBy p))) (o .bytes)) print-stands ∙ take-append-seam (printed (planBy p)) _,
+      print-short,
+    )
 
 -- ---- the answer handed over
 
@@ -265,19 +271,14 @@ not-handed f lent over kept =
     let long = lt-leb (length (printed f)) (length (lent .output)) over in
     record { result = rw long; table = rw long; spare = rw long; output = rw long kept }
 
--- numbers that found alone writes
-pub found-numbers : (o : Outcome) (new lent : List ℕ) → o ≡ Found → overFront new lent ≡ whereFound o new lent
+-- numbers that found alone writes: a list that they are no longer than has room for all of them
+pub found-numbers : (o : Outcome) (new lent : List ℕ) {after : List ℕ} → o ≡ Found → length new ≤ length lent
+    → after ≡ overFront (take (length lent) new) lent → after ≡ whereFound o new lent
 unfolding whereFound
-found-numbers o new lent e = rw e
+found-numbers o new lent e room copied = rw e (copied ∙ rw (take-all (length lent) new room))
 
 pub kept-numbers : (o : Outcome) (new lent : List ℕ) → (o ≡ Found → ⊥) → lent ≡ whereFound o new lent
 unfolding whereFound
 kept-numbers Found new lent n = absurd (n refl)
 kept-numbers None new lent n = refl
 kept-numbers Stopped new lent n = refl
-
-pub numbers-length : (o : Outcome) (new lent : List ℕ) → length new ≤ length lent → length (whereFound o new lent) ≡ length lent
-unfolding whereFound overFront
-numbers-length Found new lent l = rw (length-append, length-drop) (omega arith)
-numbers-length None new lent l = refl
-numbers-length Stopped new lent l = refl
