@@ -187,7 +187,7 @@ def main():
     examples += [(b"W", ("written: " + title).encode(), x, write(x)) for title, x in VALUES]
     here = os.path.dirname(os.path.abspath(__file__))
     with open(os.path.join(here, "stdin"), "wb") as f:
-        f.write(b"".join(letter + b"%04d%04d" % (len(title), len(x)) + title + x for letter, title, x, _ in examples))
+        f.write(b"".join(b"%b%d %d:%b%b" % (letter, len(title), len(x), title, x) for letter, title, x, _ in examples))
     with open(os.path.join(here, "stdout"), "wb") as f:
         f.write(b"".join(title + b"\n" + out for _, title, _, out in examples))
 

@@ -325,7 +325,7 @@ def main():
     lent()
     with open(os.path.join(HERE, "stdin"), "wb") as f:
         for title, file, told, table, spare, output, size, pad in CASES:
-            head = b"".join(b"%05d" % n for n in (len(title.encode()), len(file), table, spare, output, size))
+            head = b"%d %d %d %d %d %d:" % (len(title.encode()), len(file), table, spare, output, size)
             f.write(head + pad + title.encode() + file)
     with open(os.path.join(HERE, "stdout"), "wb") as f:
         f.write(b"".join(expected(*c) for c in CASES))

@@ -1,20 +1,24 @@
 // One plan, answered by the allocation and by the exhaustive planner.
+use crate::cutting::capacity;
 use crate::cutting::given;
 use crate::cutting::serves;
-use crate::cutting::write_capacities;
 use crate::exhaustive::first_served;
+use crate::numbers::back;
 use crate::numbers::entry;
-use crate::numbers::fill;
-use crate::numbers::others_from;
+use crate::numbers::front;
+use crate::numbers::least;
 use crate::numbers::plus;
+use crate::plans::Plan;
+use crate::plans::cells_of;
 use planning::Allocation;
 use planning::Mode;
 use planning::Outcome;
+use report::others;
 
 // What the lent lists hold before a call.
-pub(crate) const TABLE_PATTERN: u64 = 7;
+const TABLE_PATTERN: u64 = 7;
 
-pub(crate) const SPARE_PATTERN: u64 = 8;
+const SPARE_PATTERN: u64 = 8;
 
 // Enough for every plan here.
 const ALLOWANCE: u64 = 1000000000;
@@ -44,31 +48,69 @@ fn minutes_of(allocation: Allocation, minutes: u64) -> u64 {
     }
 }
 
-// The allocation's answer to a plan, by `minutes_of`, over a table and a spare list that are filled with patterns.
-fn answered<'a>(
-    mode: Mode,
-    minutes: u64,
-    watts: &'a [u64],
-    fuels: &'a [u64],
-    energies: &'a [u64],
-    limits: &'a [u64],
-    table: &mut [u64],
-    spare: &mut [u64],
-) -> u64 {
-    fill(&mut *table, TABLE_PATTERN);
-    fill(&mut *spare, SPARE_PATTERN);
+// The allocation's answer to a plan, by `minutes_of`, and the table and the spare list of which it was lent the front.
+pub(crate) struct Answered {
+    pub minutes: u64,
+    pub table: [u64; 20],
+    pub spare: [u64; 5],
+}
+
+// Answers a plan by the allocation, over lists that are filled with patterns.
+pub(crate) fn answer_of(plan: Plan, mode: Mode, minutes: u64) -> Answered {
+    let engines = least(plan.engines, 5) as usize;
+    let size = cells_of(plan);
+    let watts = plan.watts;
+    let fuels = plan.fuels;
+    let energies = plan.energies;
+    let limits = plan.limits;
+    let mut table = [TABLE_PATTERN; 20];
+    let mut spare = [SPARE_PATTERN; 5];
     let allocation = allocation::allocate(
         mode,
         minutes,
         ALLOWANCE,
-        watts,
-        fuels,
-        energies,
-        limits,
+        front(&watts, plan.engines),
+        front(&fuels, plan.engines),
+        front(&energies, plan.deliveries),
+        front(&limits, plan.deliveries),
+        &mut table[0..size],
+        &mut spare[0..engines],
+    );
+    Answered {
+        minutes: minutes_of(allocation, minutes),
         table,
         spare,
-    );
-    minutes_of(allocation, minutes)
+    }
+}
+
+// How many numbers behind the lent lists were changed.
+pub(crate) fn changed(plan: Plan, answer: Answered) -> u64 {
+    let size = cells_of(plan) as u64;
+    let in_table = others(back(&answer.table, size), TABLE_PATTERN) as u64;
+    let in_spare = others(back(&answer.spare, plan.engines), SPARE_PATTERN) as u64;
+    plus(in_table, in_spare)
+}
+
+// Whether each engine's spare is its capacity less its pieces.
+fn spares_right(plan: Plan, answer: Answered) -> bool {
+    let mut i = 0;
+    while i < plan.engines {
+        let pieces = given(plan, &answer.table, i);
+        if plus(entry(&answer.spare, i), pieces) != capacity(plan, i, answer.minutes) {
+            return false;
+        }
+        i += 1;
+    }
+    true
+}
+
+// Whether the lent lists hold what an answer leaves there: a cutting in watt-hours that serves and what it spares, or what they held.
+fn lists_right(plan: Plan, answer: Answered) -> bool {
+    if answer.minutes == 0 {
+        return others(&answer.table, TABLE_PATTERN) == 0
+            && others(&answer.spare, SPARE_PATTERN) == 0;
+    }
+    serves(plan, answer.minutes, 1, &answer.table) && spares_right(plan, answer)
 }
 
 // The first minute that a mode looks at.
@@ -80,33 +122,12 @@ fn first_minute(mode: Mode, minutes: u64) -> u64 {
 }
 
 // Whether the exhaustive planner comes to an answer with cuttings in 1 part, in 2 parts and so on.
-fn confirmed<'a>(
-    answer: u64,
-    mode: Mode,
-    minutes: u64,
-    watts: &'a [u64],
-    fuels: &'a [u64],
-    energies: &'a [u64],
-    limits: &'a [u64],
-    capacities: &mut [u64],
-    cells: &mut [u64],
-) -> bool {
+fn confirmed(plan: Plan, mode: Mode, minutes: u64, answer: u64) -> bool {
     let from = first_minute(mode, minutes);
     let end = plus(minutes, 1);
     let mut parts = 1;
     while parts <= MOST_PARTS {
-        let served = first_served(
-            watts,
-            fuels,
-            energies,
-            limits,
-            from,
-            end,
-            parts,
-            &mut *capacities,
-            &mut *cells,
-        );
-        if served != answer {
+        if first_served(plan, from, end, parts) != answer {
             return false;
         }
         parts += 1;
@@ -114,125 +135,7 @@ fn confirmed<'a>(
     true
 }
 
-// Whether each engine's spare is its capacity less its pieces.
-fn spares_right<'a>(
-    capacities: &'a [u64],
-    deliveries: usize,
-    table: &'a [u64],
-    spare: &'a [u64],
-) -> bool {
-    let mut i = 0;
-    while i < capacities.len() {
-        let engine = i as u64;
-        let pieces = given(table, capacities.len(), deliveries, engine);
-        if plus(entry(spare, engine), pieces) != entry(capacities, engine) {
-            return false;
-        }
-        i += 1;
-    }
-    true
-}
-
-// Whether the lent lists hold what an answer leaves there: a cutting in watt-hours that serves and what it spares, or what they held.
-fn lists_right<'a>(
-    answer: u64,
-    watts: &'a [u64],
-    fuels: &'a [u64],
-    energies: &'a [u64],
-    limits: &'a [u64],
-    table: &'a [u64],
-    spare: &'a [u64],
-    capacities: &mut [u64],
-) -> bool {
-    if answer == 0 {
-        return others_from(table, 0, TABLE_PATTERN) == 0
-            && others_from(spare, 0, SPARE_PATTERN) == 0;
-    }
-    write_capacities(watts, fuels, answer, &mut *capacities);
-    serves(&*capacities, energies, limits, 1, table)
-        && spares_right(&*capacities, energies.len(), table, spare)
-}
-
 // Whether an answer and what it leaves in the lent lists are right.
-fn agrees<'a>(
-    answer: u64,
-    mode: Mode,
-    minutes: u64,
-    watts: &'a [u64],
-    fuels: &'a [u64],
-    energies: &'a [u64],
-    limits: &'a [u64],
-    table: &'a [u64],
-    spare: &'a [u64],
-    capacities: &mut [u64],
-    cells: &mut [u64],
-) -> bool {
-    let right = lists_right(
-        answer,
-        watts,
-        fuels,
-        energies,
-        limits,
-        table,
-        spare,
-        &mut *capacities,
-    );
-    right
-        && confirmed(
-            answer,
-            mode,
-            minutes,
-            watts,
-            fuels,
-            energies,
-            limits,
-            capacities,
-            cells,
-        )
-}
-
-// The allocation's answer to a plan, by `minutes_of`, and whether all is right.
-pub(crate) struct Compared {
-    pub answer: u64,
-    pub agreed: bool,
-}
-
-// Answers a plan both ways and compares. The capacities and the cells are the exhaustive planner's, the table and the spare list the
-// allocation's.
-pub(crate) fn compare<'a>(
-    mode: Mode,
-    minutes: u64,
-    watts: &'a [u64],
-    fuels: &'a [u64],
-    energies: &'a [u64],
-    limits: &'a [u64],
-    capacities: &mut [u64],
-    cells: &mut [u64],
-    table: &mut [u64],
-    spare: &mut [u64],
-) -> Compared {
-    let answer = answered(
-        mode,
-        minutes,
-        watts,
-        fuels,
-        energies,
-        limits,
-        &mut *table,
-        &mut *spare,
-    );
-    let agreed = agrees(
-        answer,
-        mode,
-        minutes,
-        watts,
-        fuels,
-        energies,
-        limits,
-        &*table,
-        &*spare,
-        capacities,
-        cells,
-    );
-    Compared { answer, agreed }
+pub(crate) fn agrees(plan: Plan, mode: Mode, minutes: u64, answer: Answered) -> bool {
+    lists_right(plan, answer) && confirmed(plan, mode, minutes, answer.minutes)
 }

@@ -1,98 +1,84 @@
 // Document 01's capacity, and its definition of a cutting in n equal parts of a watt-hour that serves a plan. A table has a row for each
 // delivery and a column for each engine.
+use crate::numbers::LARGEST;
 use crate::numbers::entry;
+use crate::numbers::least;
 use crate::numbers::plus;
-use crate::numbers::put;
 use crate::numbers::times;
+use crate::plans::Plan;
 
 // The smaller of FUEL and WATTS × T / 60 rounded down.
-fn capacity(watts: u64, fuel: u64, minutes: u64) -> u64 {
-    let made = times(watts, minutes) / 60;
-    if fuel < made { fuel } else { made }
+pub(crate) fn capacity(plan: Plan, engine: u64, minutes: u64) -> u64 {
+    let made = times(entry(&plan.watts, engine), minutes) / 60;
+    least(entry(&plan.fuels, engine), made)
 }
 
-// The capacity of every engine.
-pub(crate) fn write_capacities<'a>(
-    watts: &'a [u64],
-    fuels: &'a [u64],
-    minutes: u64,
-    capacities: &mut [u64],
-) {
+// Whether an engine has capacity 0.
+pub(crate) fn has_idle(plan: Plan, minutes: u64) -> bool {
     let mut i = 0;
-    while i < watts.len() {
-        let place = i as u64;
-        put(
-            capacities,
-            place,
-            capacity(entry(watts, place), entry(fuels, place), minutes),
-        );
-        i += 1;
-    }
-}
-
-// The sum of a delivery's pieces.
-pub(crate) fn drawn(table: &[u64], engines: usize, delivery: u64) -> u64 {
-    let first = times(delivery, engines as u64);
-    let mut sum = 0;
-    let mut i = 0;
-    while i < engines {
-        sum = plus(sum, entry(table, plus(first, i as u64)));
-        i += 1;
-    }
-    sum
-}
-
-// How many of a delivery's pieces are above 0.
-pub(crate) fn drawn_from(table: &[u64], engines: usize, delivery: u64) -> u64 {
-    let first = times(delivery, engines as u64);
-    let mut count = 0;
-    let mut i = 0;
-    while i < engines {
-        if 0 < entry(table, plus(first, i as u64)) {
-            count = plus(count, 1);
+    while i < plan.engines {
+        if capacity(plan, i, minutes) == 0 {
+            return true;
         }
         i += 1;
     }
-    count
+    false
 }
 
-// The sum of an engine's pieces.
-pub(crate) fn given(table: &[u64], engines: usize, deliveries: usize, engine: u64) -> u64 {
-    let mut place = engine;
+// The sum of so many cells of a table, from one on and each so far behind the one before, of each no more than the most.
+fn sum(table: &[u64], first: u64, step: u64, count: u64, most: u64) -> u64 {
     let mut sum = 0;
+    let mut place = first;
     let mut i = 0;
-    while i < deliveries {
-        sum = plus(sum, entry(table, place));
-        place = plus(place, engines as u64);
+    while i < count {
+        sum = plus(sum, least(entry(table, place), most));
+        place = plus(place, step);
         i += 1;
     }
     sum
 }
 
-// Whether a delivery's pieces add up to n × ENERGY, and at most LIMIT of them are above 0.
-pub(crate) fn delivery_served(
+// The sum of an engine's pieces.
+pub(crate) fn given(plan: Plan, table: &[u64], engine: u64) -> u64 {
+    sum(table, engine, plan.engines, plan.deliveries, LARGEST)
+}
+
+// Whether at most LIMIT of a delivery's pieces are above 0, and they add up to n × ENERGY, or to no more where it is not whole yet.
+pub(crate) fn delivery_kept(
+    plan: Plan,
+    parts: u64,
     table: &[u64],
-    engines: usize,
     delivery: u64,
-    wanted: u64,
-    limit: u64,
+    whole: bool,
 ) -> bool {
-    drawn(table, engines, delivery) == wanted && drawn_from(table, engines, delivery) <= limit
+    let first = times(delivery, plan.engines);
+    let drawn = sum(table, first, 1, plan.engines, LARGEST);
+    let wanted = times(parts, entry(&plan.energies, delivery));
+    if entry(&plan.limits, delivery) < sum(table, first, 1, plan.engines, 1) {
+        false
+    } else if whole {
+        drawn == wanted
+    } else {
+        drawn <= wanted
+    }
+}
+
+// Whether an engine's pieces add up to at most n × its capacity.
+pub(crate) fn engine_suffices(
+    plan: Plan,
+    minutes: u64,
+    parts: u64,
+    table: &[u64],
+    engine: u64,
+) -> bool {
+    given(plan, table, engine) <= times(parts, capacity(plan, engine, minutes))
 }
 
 // Whether every delivery is served.
-fn deliveries_served<'a>(
-    engines: usize,
-    energies: &'a [u64],
-    limits: &'a [u64],
-    parts: u64,
-    table: &'a [u64],
-) -> bool {
+fn deliveries_served(plan: Plan, parts: u64, table: &[u64]) -> bool {
     let mut i = 0;
-    while i < energies.len() {
-        let delivery = i as u64;
-        let wanted = times(parts, entry(energies, delivery));
-        if !delivery_served(table, engines, delivery, wanted, entry(limits, delivery)) {
+    while i < plan.deliveries {
+        if !delivery_kept(plan, parts, table, i, true) {
             return false;
         }
         i += 1;
@@ -100,19 +86,11 @@ fn deliveries_served<'a>(
     true
 }
 
-// Whether every engine's pieces add up to at most n × its capacity.
-fn engines_suffice<'a>(
-    capacities: &'a [u64],
-    deliveries: usize,
-    parts: u64,
-    table: &'a [u64],
-) -> bool {
+// Whether every engine suffices.
+fn engines_suffice(plan: Plan, minutes: u64, parts: u64, table: &[u64]) -> bool {
     let mut i = 0;
-    while i < capacities.len() {
-        let engine = i as u64;
-        if times(parts, entry(capacities, engine))
-            < given(table, capacities.len(), deliveries, engine)
-        {
+    while i < plan.engines {
+        if !engine_suffices(plan, minutes, parts, table, i) {
             return false;
         }
         i += 1;
@@ -121,13 +99,6 @@ fn engines_suffice<'a>(
 }
 
 // Whether a table is a cutting in n parts that serves the plan.
-pub(crate) fn serves<'a>(
-    capacities: &'a [u64],
-    energies: &'a [u64],
-    limits: &'a [u64],
-    parts: u64,
-    table: &'a [u64],
-) -> bool {
-    deliveries_served(capacities.len(), energies, limits, parts, table)
-        && engines_suffice(capacities, energies.len(), parts, table)
+pub(crate) fn serves(plan: Plan, minutes: u64, parts: u64, table: &[u64]) -> bool {
+    deliveries_served(plan, parts, table) && engines_suffice(plan, minutes, parts, table)
 }

@@ -1,22 +1,21 @@
 // Groups of plans: every plan of a shape, or every so many-th of them, is checked and counted.
-use crate::comparison::SPARE_PATTERN;
-use crate::comparison::TABLE_PATTERN;
-use crate::comparison::compare;
-use crate::cutting::write_capacities;
-use crate::numbers;
-use crate::numbers::cells;
-use crate::numbers::least;
-use crate::numbers::list;
-use crate::numbers::others_from;
+use crate::comparison::agrees;
+use crate::comparison::answer_of;
+use crate::comparison::changed;
+use crate::numbers::front;
+use crate::numbers::quotient;
+use crate::numbers::times;
+use crate::plans::Plan;
 use crate::plans::Shape;
+use crate::plans::plan_of;
 use crate::plans::plans_of;
-use crate::plans::write_plan;
 use crate::tally;
+use crate::tally::Tally;
 use crate::tally::print;
-use crate::tally::print_count;
-use crate::tally::print_list;
-use crate::tally::print_mode;
+use libc::STDOUT_FILENO;
 use planning::Mode;
+use report::list_page;
+use report::words_page;
 
 // One plan in `step` of a shape, in a mode with its MINUTES.
 pub(crate) struct Group {
@@ -26,142 +25,62 @@ pub(crate) struct Group {
     pub step: u64,
 }
 
-// Prints a plan on which the planners differ, where it is to be shown.
-fn print_difference<'a>(
-    shown: bool,
-    mode: Mode,
-    minutes: u64,
-    watts: &'a [u64],
-    fuels: &'a [u64],
-    energies: &'a [u64],
-    limits: &'a [u64],
-    answer: u64,
-) {
-    if !shown {
-        return;
+// The most differences of a group that are printed.
+const MOST_SHOWN: u64 = 10;
+
+fn print_mode(mode: Mode) {
+    match mode {
+        Mode::Fixed => {
+            io::write_all(STDOUT_FILENO, b"fixed");
+        }
+        Mode::Shortest => {
+            io::write_all(STDOUT_FILENO, b"shortest");
+        }
     }
-    print(b"difference: ");
+}
+
+// Prints a plan on which the planners differ.
+fn print_difference(plan: Plan, mode: Mode, minutes: u64, answer: u64) {
     print_mode(mode);
-    print_count(b", ", minutes, b" min; watts");
-    print_list(watts);
-    print(b"; fuels");
-    print_list(fuels);
-    print(b"; energies");
-    print_list(energies);
-    print(b"; limits");
-    print_list(limits);
-    print_count(b"; answered ", answer, b"\n");
+    print(list_page(b": watts", front(&plan.watts, plan.engines)));
+    print(list_page(b"; fuels", front(&plan.fuels, plan.engines)));
+    print(list_page(b"; energies", front(&plan.energies, plan.deliveries)));
+    print(list_page(b"; limits", front(&plan.limits, plan.deliveries)));
+    print(words_page(b"; in # min answered #: a difference\n", &[minutes, answer]));
 }
 
-// Answers a plan both ways and compares.
-fn check_plan<'a>(
-    mode: Mode,
-    minutes: u64,
-    watts: &'a [u64],
-    fuels: &'a [u64],
-    energies: &'a [u64],
-    limits: &'a [u64],
-    capacities: &mut [u64],
-    tried: &mut [u64],
-    table: &mut [u64],
-    spare: &mut [u64],
-    counts: &mut [u64],
-) {
-    let compared = compare(
-        mode,
+// Answers a plan both ways, compares, and counts it.
+fn check_plan(mode: Mode, minutes: u64, plan: Plan, tally: Tally) -> Tally {
+    let answer = answer_of(plan, mode, minutes);
+    let agreed = agrees(plan, mode, minutes, answer);
+    if !agreed {
+        if tally.differences < MOST_SHOWN {
+            print_difference(plan, mode, minutes, answer.minutes);
+        }
+    }
+    tally::counted(
+        tally,
+        plan,
         minutes,
-        watts,
-        fuels,
-        energies,
-        limits,
-        &mut *capacities,
-        tried,
-        table,
-        spare,
-    );
-    let answer = compared.answer;
-    let agreed = compared.agreed;
-    write_capacities(watts, fuels, minutes, &mut *capacities);
-    tally::note(&mut *counts, answer, agreed, energies, limits, &*capacities);
-    let shown = tally::is_shown(&*counts, agreed);
-    print_difference(shown, mode, minutes, watts, fuels, energies, limits, answer);
+        answer.minutes,
+        agreed,
+        changed(plan, answer),
+    )
 }
 
-// Checks the plans of a group. Each list is as long as its plans ask.
-fn check_plans(
-    group: Group,
-    watts: &mut [u64],
-    fuels: &mut [u64],
-    energies: &mut [u64],
-    limits: &mut [u64],
-    capacities: &mut [u64],
-    tried: &mut [u64],
-    table: &mut [u64],
-    spare: &mut [u64],
-    counts: &mut [u64],
-) {
+// Checks the plans of a group.
+fn check_plans(group: Group) -> Tally {
     let shape = group.shape;
     let mode = group.mode;
-    let plans = numbers::quotient(plans_of(shape), group.step);
+    let plans = quotient(plans_of(shape), group.step);
+    let mut tally = tally::empty();
     let mut i = 0;
     while i < plans {
-        let number = numbers::times(i, group.step);
-        write_plan(
-            shape,
-            number,
-            &mut *watts,
-            &mut *fuels,
-            &mut *energies,
-            &mut *limits,
-        );
-        check_plan(
-            mode,
-            group.minutes,
-            &*watts,
-            &*fuels,
-            &*energies,
-            &*limits,
-            &mut *capacities,
-            &mut *tried,
-            &mut *table,
-            &mut *spare,
-            &mut *counts,
-        );
+        let plan = plan_of(shape, times(i, group.step));
+        tally = check_plan(mode, group.minutes, plan, tally);
         i += 1;
     }
-}
-
-// Checks the plans of a group with the front of longer lists lent to the allocation, and answers how many numbers behind it were changed.
-fn check_lent(
-    group: Group,
-    watts: &mut [u64],
-    fuels: &mut [u64],
-    energies: &mut [u64],
-    limits: &mut [u64],
-    capacities: &mut [u64],
-    tried: &mut [u64],
-    counts: &mut [u64],
-) -> u64 {
-    let engines = least(watts.len() as u64, 5);
-    let size = least(tried.len() as u64, 20);
-    let mut table = cells(TABLE_PATTERN);
-    let mut spare = list(SPARE_PATTERN);
-    check_plans(
-        group,
-        watts,
-        fuels,
-        energies,
-        limits,
-        capacities,
-        tried,
-        &mut table[..size],
-        &mut spare[..engines],
-        counts,
-    );
-    numbers::plus(
-        others_from(&table, size, TABLE_PATTERN),
-        others_from(&spare, engines, SPARE_PATTERN),
-    )
+    tally
 }
 
 // Prints what the plans of a group are.
@@ -169,40 +88,27 @@ fn print_group(group: Group) {
     let shape = group.shape;
     let mode = group.mode;
     print_mode(mode);
-    print_count(b", minutes ", group.minutes, b"; engines ");
-    print_count(b"", shape.engines as u64, b", sizes 0 to ");
-    print_count(b"", shape.size, b"; deliveries ");
-    print_count(b"", shape.deliveries as u64, b", energies 1 to ");
-    print_count(b"", shape.energy, b", limits 1 to ");
-    print_count(b"", shape.limit, b"; one plan in ");
-    print_count(b"", group.step, b"\n");
+    print(words_page(
+        b", minutes #; engines #, sizes 0 to #; deliveries #, energies 1 to #, limits 1 to #; one plan in #\n",
+        &[
+            group.minutes,
+            shape.engines,
+            shape.size,
+            shape.deliveries,
+            shape.energy,
+            shape.limit,
+            group.step,
+        ],
+    ));
 }
 
-// Checks the plans of a group, and prints what was counted.
-pub(crate) fn check_group(group: Group, total: &mut [u64]) {
-    let shape = group.shape;
-    let engines = least(shape.engines as u64, 5);
-    let deliveries = least(shape.deliveries as u64, 5);
-    let size = least(numbers::times(engines as u64, deliveries as u64), 20);
-    let mut watts = list(0);
-    let mut fuels = list(0);
-    let mut energies = list(0);
-    let mut limits = list(0);
-    let mut capacities = list(0);
-    let mut tried = cells(0);
-    let mut counts = cells(0);
-    let behind = check_lent(
-        group,
-        &mut watts[..engines],
-        &mut fuels[..engines],
-        &mut energies[..deliveries],
-        &mut limits[..deliveries],
-        &mut capacities[..engines],
-        &mut tried[..size],
-        &mut counts,
-    );
+// Checks the plans of a group, prints what was counted, and adds it to a total.
+pub(crate) fn check_group(group: Group, total: Tally) -> Tally {
+    let tally = check_plans(group);
     print_group(group);
-    tally::print_tally(&counts, group.minutes);
-    print_count(b", ", behind, b" numbers changed behind the lent lists\n");
-    tally::add(total, &counts);
+    tally::print_tally(
+        tally,
+        b", # none; # with a limit 1, # with deliveries alike, # with a capacity 0; # differences, # numbers changed behind the lent lists\n",
+    );
+    tally::added(total, tally)
 }

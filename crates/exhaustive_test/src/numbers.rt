@@ -1,9 +1,7 @@
-// Arithmetic that is defined for all numbers, and lists read and written at any place. Plans here are small, so the ends are never met.
-ghost use mathlib.Core.Path.{_≡_};
+// Arithmetic that is defined for all numbers, and lists read at any place. Plans here are small, so the ends are never met.
 ghost use Prim.Native.Nat.{_≤_};
-ghost use lib.ListN.{length};
 
-const LARGEST: u64 = 18446744073709551615;
+pub(crate) const LARGEST: u64 = 18446744073709551615;
 
 // The sum, or the largest number where it does not fit.
 pub(crate) fn plus(a: u64, b: u64) -> u64 {
@@ -23,11 +21,11 @@ pub(crate) fn times(a: u64, b: u64) -> u64
     }
 }
 
-// A number, or the most where it is more.
-pub(crate) fn least(a: u64, most: usize) -> usize
-    ensures { λ r. ⌜ r ≤ most ⌝ }
+// The smaller of two numbers.
+pub(crate) fn least(a: u64, b: u64) -> u64
+    ensures { λ r. ⌜ (r ≤ a) × (r ≤ b) ⌝ }
 {
-    if a < most as u64 { a as usize } else { most }
+    if a < b { a } else { b }
 }
 
 // How often b goes into a; 0 for b = 0.
@@ -40,20 +38,6 @@ pub(crate) fn remainder(a: u64, b: u64) -> u64 {
     if b == 0 { 0 } else { a % b }
 }
 
-// Room for one number for each engine or delivery of a plan.
-pub(crate) fn list(value: u64) -> [u64; 5]
-    ensures { λ r. ⌜ 5 ≡ length r ⌝ }
-{
-    [value; 5]
-}
-
-// Room for a table, or for a tally.
-pub(crate) fn cells(value: u64) -> [u64; 20]
-    ensures { λ r. ⌜ 20 ≡ length r ⌝ }
-{
-    [value; 20]
-}
-
 // The number at a place of a list, or 0 behind its end.
 pub(crate) fn entry(list: &[u64], i: u64) -> u64 {
     if i < list.len() as u64 {
@@ -63,44 +47,14 @@ pub(crate) fn entry(list: &[u64], i: u64) -> u64 {
     }
 }
 
-// Writes a number at a place of a list; none behind its end.
-pub(crate) fn put(list: &mut [u64], i: u64, value: u64) {
-    if i < list.len() as u64 {
-        list[i as usize] = value;
-    }
+// The first numbers of a list, so many or all.
+pub(crate) fn front(list: &[u64], count: u64) -> &[u64] {
+    let n = least(count, list.len() as u64) as usize;
+    &list[0..n]
 }
 
-// Fills a list with one number.
-pub(crate) fn fill(list: &mut [u64], value: u64) {
-    let mut i = 0;
-    while i < list.len() {
-        list[i] = value;
-        i += 1;
-    }
-}
-
-// How many numbers of a list equal one.
-pub(crate) fn count_of(list: &[u64], value: u64) -> u64 {
-    let mut count = 0;
-    let mut i = 0;
-    while i < list.len() {
-        if list[i] == value {
-            count = plus(count, 1);
-        }
-        i += 1;
-    }
-    count
-}
-
-// How many numbers of a list, from a place on, are other than one.
-pub(crate) fn others_from(list: &[u64], from: usize, value: u64) -> u64 {
-    let mut count = 0;
-    let mut i = from;
-    while i < list.len() {
-        if list[i] != value {
-            count = plus(count, 1);
-        }
-        i += 1;
-    }
-    count
+// The numbers of a list behind those.
+pub(crate) fn back(list: &[u64], count: u64) -> &[u64] {
+    let n = least(count, list.len() as u64) as usize;
+    &list[n..]
 }

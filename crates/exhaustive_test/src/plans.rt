@@ -1,30 +1,25 @@
 // Plans made from numbers: the digits of a number, in mixed radix, are the sizes of a plan's engines, its energies and its limits.
 use crate::numbers::entry;
+use crate::numbers::least;
 use crate::numbers::plus;
-use crate::numbers::put;
 use crate::numbers::quotient;
 use crate::numbers::remainder;
 use crate::numbers::times;
+ghost use Prim.Native.Nat.{_≤_};
 
 // FUEL's largest value, more than any engine here can burn.
 const UNLIMITED: u64 = 1000000000;
 
 // Plans of so many engines and deliveries: sizes of engines from 0, energies and limits from 1, each up to a largest one.
 pub(crate) struct Shape {
-    pub engines: usize,
-    pub deliveries: usize,
+    pub engines: u64,
+    pub deliveries: u64,
     pub size: u64,
     pub energy: u64,
     pub limit: u64,
 }
 
-pub(crate) fn shape_of(
-    engines: usize,
-    deliveries: usize,
-    size: u64,
-    energy: u64,
-    limit: u64,
-) -> Shape {
+pub(crate) fn shape_of(engines: u64, deliveries: u64, size: u64, energy: u64, limit: u64) -> Shape {
     Shape {
         engines,
         deliveries,
@@ -34,8 +29,25 @@ pub(crate) fn shape_of(
     }
 }
 
+// A plan: of each list the first numbers count, one for each engine or delivery.
+pub(crate) struct Plan {
+    pub engines: u64,
+    pub deliveries: u64,
+    pub watts: [u64; 5],
+    pub fuels: [u64; 5],
+    pub energies: [u64; 5],
+    pub limits: [u64; 5],
+}
+
+// How many cells a plan's table has.
+pub(crate) fn cells_of(plan: Plan) -> usize
+    ensures { λ r. ⌜ r ≤ 20 ⌝ }
+{
+    least(times(plan.engines, plan.deliveries), 20) as usize
+}
+
 // A number to a power.
-fn power(base: u64, exponent: usize) -> u64 {
+fn power(base: u64, exponent: u64) -> u64 {
     let mut product = 1;
     let mut i = 0;
     while i < exponent {
@@ -53,56 +65,47 @@ pub(crate) fn plans_of(shape: Shape) -> u64 {
     )
 }
 
-// Fills a list with the lowest digits of a number, each raised by `least`, and answers the number without them.
-fn write_digits(number: u64, radix: u64, least: u64, list: &mut [u64]) -> u64 {
+// The lowest digits of a number, each raised by `least` and then taken `scale` times.
+fn digits(number: u64, radix: u64, least: u64, scale: u64) -> [u64; 5] {
+    let mut list = [0; 5];
     let mut rest = number;
     let mut i = 0;
-    while i < list.len() {
-        list[i] = plus(least, remainder(rest, radix));
+    while i < 5 {
+        list[i] = times(scale, plus(least, remainder(rest, radix)));
         rest = quotient(rest, radix);
         i += 1;
     }
-    rest
+    list
 }
 
-// The fuel of an engine: unlimited for the first, the third and so on; for the others as many Wh as its size, used up after 3 minutes.
-fn fuel(engine: u64, size: u64) -> u64 {
-    if engine % 2 == 0 { UNLIMITED } else { size }
-}
-
-// Turns sizes into watts and fuels. An engine of size c makes c Wh in 3 minutes.
-fn write_engines(watts: &mut [u64], fuels: &mut [u64]) {
-    let mut i = 0;
-    while i < watts.len() {
-        let size = watts[i];
-        put(&mut *fuels, i as u64, fuel(i as u64, size));
-        watts[i] = times(20, size);
-        i += 1;
+// The plan of a shape that a number stands for. An engine of size c makes c Wh in 3 minutes. The first, the third and the fifth have unlimited
+// fuel, the others as many Wh as their size, used up after 3 minutes.
+pub(crate) fn plan_of(shape: Shape, number: u64) -> Plan {
+    let sizes = plus(shape.size, 1);
+    let after_engines = quotient(number, power(sizes, shape.engines));
+    let after_energies = quotient(after_engines, power(shape.energy, shape.deliveries));
+    let made = digits(number, sizes, 0, 1);
+    let watts = digits(number, sizes, 0, 20);
+    let fuels = [UNLIMITED, made[1], UNLIMITED, made[3], UNLIMITED];
+    let energies = digits(after_engines, shape.energy, 1, 1);
+    let limits = digits(after_energies, shape.limit, 1, 1);
+    Plan {
+        engines: shape.engines,
+        deliveries: shape.deliveries,
+        watts,
+        fuels,
+        energies,
+        limits,
     }
 }
 
-// Writes the plan of a shape that a number stands for.
-pub(crate) fn write_plan(
-    shape: Shape,
-    number: u64,
-    watts: &mut [u64],
-    fuels: &mut [u64],
-    energies: &mut [u64],
-    limits: &mut [u64],
-) {
-    let after_engines = write_digits(number, plus(shape.size, 1), 0, &mut *watts);
-    let after_energies = write_digits(after_engines, shape.energy, 1, energies);
-    write_digits(after_energies, shape.limit, 1, limits);
-    write_engines(watts, fuels);
-}
-
 // Whether a delivery before one has its energy and its limit.
-fn has_twin<'a>(energies: &'a [u64], limits: &'a [u64], delivery: usize) -> bool {
-    let energy = entry(energies, delivery as u64);
-    let limit = entry(limits, delivery as u64);
+fn has_twin(plan: Plan, delivery: u64) -> bool {
+    let energy = entry(&plan.energies, delivery);
+    let limit = entry(&plan.limits, delivery);
     let mut i = 0;
     while i < delivery {
-        if entry(energies, i as u64) == energy && entry(limits, i as u64) == limit {
+        if entry(&plan.energies, i) == energy && entry(&plan.limits, i) == limit {
             return true;
         }
         i += 1;
@@ -111,10 +114,22 @@ fn has_twin<'a>(energies: &'a [u64], limits: &'a [u64], delivery: usize) -> bool
 }
 
 // Whether two deliveries are alike, which makes them equally bulky.
-pub(crate) fn has_tie<'a>(energies: &'a [u64], limits: &'a [u64]) -> bool {
+pub(crate) fn has_tie(plan: Plan) -> bool {
     let mut i = 0;
-    while i < energies.len() {
-        if has_twin(energies, limits, i) {
+    while i < plan.deliveries {
+        if has_twin(plan, i) {
+            return true;
+        }
+        i += 1;
+    }
+    false
+}
+
+// Whether a delivery has limit 1.
+pub(crate) fn has_limit_one(plan: Plan) -> bool {
+    let mut i = 0;
+    while i < plan.deliveries {
+        if entry(&plan.limits, i) == 1 {
             return true;
         }
         i += 1;

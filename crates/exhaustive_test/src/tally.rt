@@ -1,141 +1,130 @@
 // What is counted over the plans of a group, and its print.
-use crate::numbers::count_of;
+use crate::cutting::has_idle;
 use crate::numbers::entry;
 use crate::numbers::plus;
-use crate::numbers::put;
+use crate::plans::Plan;
+use crate::plans::has_limit_one;
 use crate::plans::has_tie;
 use libc::STDOUT_FILENO;
-use planning::Mode;
+use report::Page;
+use report::words_page;
+use report::written;
 
-// The places of a tally: plans, those with a limit 1, with two deliveries alike, with an engine of capacity 0, and those on which the
-// planners differ; then how many plans are answered none, how many are found at 1 minute, at 2 and so on.
-const PLANS: u64 = 0;
+// Writes a page to standard output.
+pub(crate) fn print(page: Page) {
+    let next = page.next;
+    let bytes = page.bytes;
+    io::write_all(STDOUT_FILENO, written(&bytes, next));
+}
 
-const LIMIT_ONE: u64 = 1;
+// Plans, those answered none, those with a limit 1, with two deliveries alike, with an engine of capacity 0, those on which the planners differ,
+// how many numbers were changed behind the lent lists, and how many plans are found at each number of minutes.
+pub(crate) struct Tally {
+    pub plans: u64,
+    pub none: u64,
+    pub limit_one: u64,
+    pub tied: u64,
+    pub idle: u64,
+    pub differences: u64,
+    pub changed: u64,
+    pub found: [u64; 9],
+}
 
-const TIED: u64 = 2;
-
-const EMPTY: u64 = 3;
-
-const DIFFERENCES: u64 = 4;
-
-const NONE: u64 = 5;
-
-// The most differences of a group that are printed.
-const MOST_SHOWN: u64 = 10;
-
-// Counts one more at a place where something is so.
-fn count_if(tally: &mut [u64], place: u64, so: bool) {
-    if so {
-        let count = plus(entry(&*tally, place), 1);
-        put(tally, place, count);
+pub(crate) fn empty() -> Tally {
+    let found = [0; 9];
+    Tally {
+        plans: 0,
+        none: 0,
+        limit_one: 0,
+        tied: 0,
+        idle: 0,
+        differences: 0,
+        changed: 0,
+        found,
     }
 }
 
-// Counts a plan: by its answer, whether the planners agree on it, and by what makes it hard.
-pub(crate) fn note<'a>(
-    tally: &mut [u64],
+// One more where something is so.
+fn count_if(count: u64, so: bool) -> u64 {
+    if so { plus(count, 1) } else { count }
+}
+
+// One more found at some minutes; none at 0.
+fn count_found(found: [u64; 9], minutes: u64) -> [u64; 9] {
+    let mut counted = found;
+    if 0 < minutes {
+        if minutes < 9 {
+            let count = counted[minutes as usize];
+            counted[minutes as usize] = plus(count, 1);
+        }
+    }
+    counted
+}
+
+// Counts a plan of so many MINUTES: by its answer, whether the planners agree on it, and by what makes it hard.
+pub(crate) fn counted(
+    tally: Tally,
+    plan: Plan,
+    minutes: u64,
     answer: u64,
     agreed: bool,
-    energies: &'a [u64],
-    limits: &'a [u64],
-    capacities: &'a [u64],
-) {
-    let limit_one = 0 < count_of(limits, 1);
-    let tied = has_tie(energies, limits);
-    let empty = 0 < count_of(capacities, 0);
-    count_if(&mut *tally, PLANS, true);
-    count_if(&mut *tally, plus(NONE, answer), true);
-    count_if(&mut *tally, LIMIT_ONE, limit_one);
-    count_if(&mut *tally, TIED, tied);
-    count_if(&mut *tally, EMPTY, empty);
-    count_if(tally, DIFFERENCES, !agreed);
+    changed: u64,
+) -> Tally {
+    let found = tally.found;
+    let found = count_found(found, answer);
+    Tally {
+        plans: plus(tally.plans, 1),
+        none: count_if(tally.none, answer == 0),
+        limit_one: count_if(tally.limit_one, has_limit_one(plan)),
+        tied: count_if(tally.tied, has_tie(plan)),
+        idle: count_if(tally.idle, has_idle(plan, minutes)),
+        differences: count_if(tally.differences, !agreed),
+        changed: plus(tally.changed, changed),
+        found,
+    }
 }
 
-// Whether a plan just counted is to be printed: one of the first differences of a group.
-pub(crate) fn is_shown(tally: &[u64], agreed: bool) -> bool {
-    !agreed && entry(tally, DIFFERENCES) <= MOST_SHOWN
+// Two tallies' counts added up, without those by minutes.
+pub(crate) fn added(total: Tally, tally: Tally) -> Tally {
+    let found = total.found;
+    Tally {
+        plans: plus(total.plans, tally.plans),
+        none: plus(total.none, tally.none),
+        limit_one: plus(total.limit_one, tally.limit_one),
+        tied: plus(total.tied, tally.tied),
+        idle: plus(total.idle, tally.idle),
+        differences: plus(total.differences, tally.differences),
+        changed: plus(total.changed, tally.changed),
+        found,
+    }
 }
 
-pub(crate) fn print(text: &[u8]) {
-    io::write_all(STDOUT_FILENO, text);
-}
-
-// Prints what the program compares.
-pub(crate) fn print_title() {
-    print(
-        b"The allocation's answers against those of trying every cutting in 1, 2 and 3 parts of a watt-hour.\n",
-    );
-}
-
-// Prints a number between words.
-pub(crate) fn print_count<'a>(before: &'a [u8], n: u64, after: &'a [u8]) {
-    print(before);
-    io::print_decimal(STDOUT_FILENO, n);
-    print(after);
-}
-
-// Prints a space and a number.
-fn print_next(n: u64) {
-    print_count(b" ", n, b"");
-}
-
-// Prints every number of a list.
-pub(crate) fn print_list(list: &[u64]) {
-    let mut i = 0;
-    while i < list.len() {
-        print_next(list[i]);
+// Prints how many plans were found at each number of minutes at which some were.
+fn print_found(found: [u64; 9]) {
+    let mut i: u64 = 1;
+    while i < 9 {
+        let count = entry(&found, i);
+        if 0 < count {
+            print(words_page(b", # found at # min", &[count, i]));
+        }
         i += 1;
     }
 }
 
-pub(crate) fn print_mode(mode: Mode) {
-    match mode {
-        Mode::Fixed => print(b"fixed"),
-        Mode::Shortest => print(b"shortest"),
-    }
-}
-
-// Prints how many plans were found at some minutes, unless it is 0.
-fn print_found_at(found: u64, minutes: u64) {
-    if 0 < found {
-        print_count(b", ", found, b" found");
-        print_count(b" at ", minutes, b" min");
-    }
-}
-
-// Prints how many plans were found at each number of minutes.
-fn print_found(tally: &[u64], minutes: u64) {
-    let mut i = 0;
-    while i < minutes {
-        i += 1;
-        print_found_at(entry(tally, plus(NONE, i)), i);
-    }
-}
-
-// Prints a tally, with the plans found at each number of minutes up to some.
-pub(crate) fn print_tally(tally: &[u64], minutes: u64) {
-    print_count(b"  ", entry(tally, PLANS), b" plans");
-    print_found(tally, minutes);
-    print_count(b", ", entry(tally, NONE), b" none");
-    print_count(b"; ", entry(tally, LIMIT_ONE), b" with a limit 1");
-    print_count(b", ", entry(tally, TIED), b" with deliveries alike");
-    print_count(b", ", entry(tally, EMPTY), b" with a capacity 0");
-    print_count(b"; ", entry(tally, DIFFERENCES), b" differences");
-}
-
-// Adds a tally's counts to another's.
-pub(crate) fn add(total: &mut [u64], tally: &[u64]) {
-    let mut i = 0;
-    while i < total.len() {
-        total[i] = plus(total[i], entry(tally, i as u64));
-        i += 1;
-    }
-}
-
-// Prints what was counted over all groups.
-pub(crate) fn print_total(total: &[u64]) {
-    print(b"all\n");
-    print_tally(total, 0);
-    print(b"\n");
+// Prints a tally, with words for its other counts.
+pub(crate) fn print_tally(tally: Tally, words: &[u8]) {
+    let found = tally.found;
+    print(words_page(b"  # plans", &[tally.plans]));
+    print_found(found);
+    print(words_page(
+        words,
+        &[
+            tally.none,
+            tally.limit_one,
+            tally.tied,
+            tally.idle,
+            tally.differences,
+            tally.changed,
+        ],
+    ));
 }

@@ -4,7 +4,6 @@ use Prim.Native.Nat.{_≤_, _<_, _-_}
 use native.Mathlib.Omega.{arith}
 use lib.ListN.{length}
 use denote.Ref.{now}
-use borrow.Author.Needs.{needs}
 use Rattle.csv_test.proofs.show_records.Statement.{statement}
 use Rattle.csv_test.proofs.show_records.Tie as tie
 
@@ -17,16 +16,16 @@ abbrev μ-loop : tie.MeasureT-loop
 -- the record lies in the file, and the next one begins behind it
 within : (c : tie.After-record-at Inv-loop μ-loop)
     → let file = now (c .before .before .before .args .file) in
-    let record-span = c .record-at .result in
-    (c .before .loop .from ≤ record-span .end) × (record-span .end ≤ record-span .next) × (record-span .next ≤ length file)
-    × (c .before .loop .from < length file → c .before .loop .from < record-span .next)
+    let from = c .before .loop .from in
+    let span = c .record-at .result in
+    (from ≤ span .end) × (span .end ≤ span .next) × (span .next ≤ length file) × (from < length file → from < span .next)
 within c = c .record-at .ensures .within (c .before .loop .inv)
 
 loop-holds : tie.Need-loop-holds Inv-loop μ-loop
-loop-holds c = search needs
+loop-holds c = omega arith
 
 record-at-requires : tie.Need-record-at-requires Inv-loop μ-loop
-record-at-requires c κs = search needs
+record-at-requires c κs = tt
 
 sub-show-record : tie.Need-sub-show-record Inv-loop μ-loop
 sub-show-record c = omega (arith, within c)
@@ -38,16 +37,16 @@ part-show-record-end : tie.Need-part-show-record-end Inv-loop μ-loop
 part-show-record-end c = omega (arith, within c)
 
 show-record-requires : tie.Need-show-record-requires Inv-loop μ-loop
-show-record-requires c κs = search needs
+show-record-requires c κs = tt
 
 returns : tie.Need-returns Inv-loop μ-loop
-returns c = search needs
+returns c = tt
 
 loop-less : tie.Need-loop-less Inv-loop μ-loop
-loop-less c = let w = within (c .before .before .before) in omega (arith, w .3 (omega (arith, w, c .if1 .left)))
+loop-less c = let w = within (c .before .before .before) in omega (arith, w .3 (omega (arith, w)))
 
 loop-again : tie.Need-loop-again Inv-loop μ-loop
-loop-again c = search needs
+loop-again c = omega (arith, within (c .before .before .before))
 
 pub show-records-spec : {M : Type 1} → statement M
 show-records-spec =

@@ -1,17 +1,15 @@
--- `exhaustive_test::check_small` is safe and ends. The loop's invariant: the total keeps its length.
+-- `exhaustive_test::check_small` is safe and ends. The loop needs no invariant.
 -- Assumes nothing.
 use Prim.Native.Nat.{_-_}
-use lib.ListN.{length}
-use mathlib.Core.Path.{_≡_}
 use borrow.Author.Needs.{needs}
 use Rattle.exhaustive_test.proofs.check_small.Statement.{statement}
 use Rattle.exhaustive_test.proofs.check_small.Tie as tie
 
 abbrev Inv-loop : tie.InvT-loop
-Inv-loop engines step-fixed step-shortest total₀ deliveries₀ total deliveries = length total ≡ length total₀
+Inv-loop engines step-fixed step-shortest tally₀ deliveries₀ tally deliveries = Unit {0}
 
 abbrev μ-loop : tie.MeasureT-loop
-μ-loop engines step-fixed step-shortest total₀ deliveries₀ total deliveries = 4 - deliveries
+μ-loop engines step-fixed step-shortest tally₀ deliveries₀ tally deliveries = 4 - deliveries
 
 loop-holds : tie.Need-loop-holds Inv-loop μ-loop
 loop-holds c = search needs
@@ -34,9 +32,6 @@ loop-less c = search needs
 loop-again : tie.Need-loop-again Inv-loop μ-loop
 loop-again c = search needs
 
-same-length : tie.Need-same-length Inv-loop μ-loop
-same-length c = search needs
-
 returns : tie.Need-returns Inv-loop μ-loop
 returns c = search needs
 
@@ -53,5 +48,4 @@ check-small-spec =
     add-deliveries
     loop-less
     loop-again
-    same-length
     returns)

@@ -1,49 +1,32 @@
+use borrow.Author.Needs.{needs}
 -- `filecall_test::run_cases` is safe and ends: the place of the next case is within the input, and behind the one before. The measure is
 -- what is left of the input. Assumes nothing.
-use Prim.Native.Nat.{_-_, _≤_}
+use mathlib.Core.Path.{refl}
+use Prim.Native.Nat.{_≤_, _-_}
 use lib.ListN.{length}
-use borrow.Author.Needs.{needs}
 use Rattle.filecall_test.proofs.run_cases.Statement.{statement}
 use Rattle.filecall_test.proofs.run_cases.Tie as tie
 
 abbrev Inv-loop : tie.InvT-loop
-Inv-loop input at₀ t6 at = at ≤ length input
+Inv-loop input at₀ t7 at = at ≤ length input
 
 abbrev μ-loop : tie.MeasureT-loop
-μ-loop input at₀ t6 at = length input - at
+μ-loop input at₀ t7 at = length input - at
 
 loop-holds : tie.Need-loop-holds Inv-loop μ-loop
 loop-holds c = search needs
 
-sub-loop : tie.Need-sub-loop Inv-loop μ-loop
-sub-loop c = search needs
+case-at-requires : tie.Need-case-at-requires Inv-loop μ-loop
+case-at-requires c κs = search needs
 
-add-title : tie.Need-add-title Inv-loop μ-loop
-add-title c = search needs
+slice-aggregate-write-all : tie.Need-slice-aggregate-write-all Inv-loop μ-loop
+slice-aggregate-write-all c = refl
 
-number-at-requires : tie.Need-number-at-requires Inv-loop μ-loop
-number-at-requires c κs = search needs
-
-add-bytes : tie.Need-add-bytes Inv-loop μ-loop
-add-bytes c = search needs
-
-add-number-at : tie.Need-add-number-at Inv-loop μ-loop
-add-number-at c = search needs
-
-number-at-requires-2 : tie.Need-number-at-requires-2 Inv-loop μ-loop
-number-at-requires-2 c κs = search needs
-
-add-end : tie.Need-add-end Inv-loop μ-loop
-add-end c = search needs
-
-slice-aggregate-print : tie.Need-slice-aggregate-print Inv-loop μ-loop
-slice-aggregate-print c = search needs
-
-print-requires : tie.Need-print-requires Inv-loop μ-loop
-print-requires c κs = search needs
+write-all-requires : tie.Need-write-all-requires Inv-loop μ-loop
+write-all-requires c κs = tt
 
 returns : tie.Need-returns Inv-loop μ-loop
-returns c = search needs
+returns c = tt
 
 sub-run-case : tie.Need-sub-run-case Inv-loop μ-loop
 sub-run-case c = search needs
@@ -63,11 +46,14 @@ part-run-case-start-2 c = search needs
 part-run-case-end-2 : tie.Need-part-run-case-end-2 Inv-loop μ-loop
 part-run-case-end-2 c = search needs
 
-lent-at-requires : tie.Need-lent-at-requires Inv-loop μ-loop
-lent-at-requires c κs = search needs
+sub-run-case-3 : tie.Need-sub-run-case-3 Inv-loop μ-loop
+sub-run-case-3 c = search needs
+
+shared-slice-read-run-case : tie.Need-shared-slice-read-run-case Inv-loop μ-loop
+shared-slice-read-run-case c = search needs
 
 run-case-requires : tie.Need-run-case-requires Inv-loop μ-loop
-run-case-requires c κs = search needs
+run-case-requires c κs = c .before .before .before .before .case-at .ensures .1
 
 loop-less : tie.Need-loop-less Inv-loop μ-loop
 loop-less c = search needs
@@ -76,7 +62,7 @@ loop-again : tie.Need-loop-again Inv-loop μ-loop
 loop-again c = search needs
 
 returns-2 : tie.Need-returns-2 Inv-loop μ-loop
-returns-2 c = search needs
+returns-2 c = tt
 
 pub run-cases-spec : {M : Type 1} → statement M
 run-cases-spec =
@@ -85,15 +71,9 @@ run-cases-spec =
     Inv-loop
     μ-loop
     loop-holds
-    sub-loop
-    add-title
-    number-at-requires
-    add-bytes
-    add-number-at
-    number-at-requires-2
-    add-end
-    slice-aggregate-print
-    print-requires
+    case-at-requires
+    slice-aggregate-write-all
+    write-all-requires
     returns
     sub-run-case
     part-run-case-start
@@ -101,7 +81,8 @@ run-cases-spec =
     sub-run-case-2
     part-run-case-start-2
     part-run-case-end-2
-    lent-at-requires
+    sub-run-case-3
+    shared-slice-read-run-case
     run-case-requires
     loop-less
     loop-again

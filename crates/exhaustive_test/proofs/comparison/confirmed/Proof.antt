@@ -1,17 +1,15 @@
--- `exhaustive_test::comparison::confirmed` is safe and ends. The loop's invariant: the capacities and the cells keep their lengths.
+-- `exhaustive_test::comparison::confirmed` is safe and ends. The loop needs no invariant.
 -- Assumes nothing.
 use Prim.Native.Nat.{_-_}
-use lib.ListN.{length}
-use mathlib.Core.Path.{_≡_}
 use borrow.Author.Needs.{needs}
 use Rattle.exhaustive_test.proofs.comparison.confirmed.Statement.{statement}
 use Rattle.exhaustive_test.proofs.comparison.confirmed.Tie as tie
 
 abbrev Inv-loop : tie.InvT-loop
-Inv-loop answer minutes watts fuels energies limits capacities₀ cells₀ from end parts₀ capacities cells parts = (length capacities ≡ length capacities₀) × (length cells ≡ length cells₀)
+Inv-loop plan minutes answer from end parts₀ parts = Unit {0}
 
 abbrev μ-loop : tie.MeasureT-loop
-μ-loop answer minutes watts fuels energies limits capacities₀ cells₀ from end parts₀ capacities cells parts = 4 - parts
+μ-loop plan minutes answer from end parts₀ parts = 4 - parts
 
 first-minute-requires : tie.Need-first-minute-requires Inv-loop μ-loop
 first-minute-requires c κs = search needs
@@ -25,12 +23,6 @@ loop-holds c = search needs
 first-served-requires : tie.Need-first-served-requires Inv-loop μ-loop
 first-served-requires c κs = search needs
 
-same-length : tie.Need-same-length Inv-loop μ-loop
-same-length c = search needs
-
-same-length-2 : tie.Need-same-length-2 Inv-loop μ-loop
-same-length-2 c = search needs
-
 returns : tie.Need-returns Inv-loop μ-loop
 returns c = search needs
 
@@ -42,12 +34,6 @@ loop-less c = search needs
 
 loop-again : tie.Need-loop-again Inv-loop μ-loop
 loop-again c = search needs
-
-same-length-3 : tie.Need-same-length-3 Inv-loop μ-loop
-same-length-3 c = search needs
-
-same-length-4 : tie.Need-same-length-4 Inv-loop μ-loop
-same-length-4 c = search needs
 
 returns-2 : tie.Need-returns-2 Inv-loop μ-loop
 returns-2 c = search needs
@@ -62,12 +48,8 @@ confirmed-spec =
     plus-requires
     loop-holds
     first-served-requires
-    same-length
-    same-length-2
     returns
     add-parts
     loop-less
     loop-again
-    same-length-3
-    same-length-4
     returns-2)

@@ -1,16 +1,15 @@
--- `exhaustive_test::comparison::spares_right` is safe and ends. The loop needs no invariant; its measure is what is left of the engines.
+-- `exhaustive_test::comparison::spares_right` is safe and ends. The loop needs no invariant.
 -- Assumes nothing.
 use Prim.Native.Nat.{_-_}
-use lib.ListN.{length}
 use borrow.Author.Needs.{needs}
 use Rattle.exhaustive_test.proofs.comparison.spares_right.Statement.{statement}
 use Rattle.exhaustive_test.proofs.comparison.spares_right.Tie as tie
 
 abbrev Inv-loop : tie.InvT-loop
-Inv-loop capacities deliveries table spare i₀ i = Unit {0}
+Inv-loop plan answer i₀ i = Unit {0}
 
 abbrev μ-loop : tie.MeasureT-loop
-μ-loop capacities deliveries table spare i₀ i = length capacities - i
+μ-loop plan answer i₀ i = plan .engines - i
 
 loop-holds : tie.Need-loop-holds Inv-loop μ-loop
 loop-holds c = search needs
@@ -24,8 +23,8 @@ entry-requires c κs = search needs
 plus-requires : tie.Need-plus-requires Inv-loop μ-loop
 plus-requires c κs = search needs
 
-entry-requires-2 : tie.Need-entry-requires-2 Inv-loop μ-loop
-entry-requires-2 c κs = search needs
+capacity-requires : tie.Need-capacity-requires Inv-loop μ-loop
+capacity-requires c κs = search needs
 
 returns : tie.Need-returns Inv-loop μ-loop
 returns c = search needs
@@ -52,7 +51,7 @@ spares-right-spec =
     given-requires
     entry-requires
     plus-requires
-    entry-requires-2
+    capacity-requires
     returns
     add-i
     loop-less

@@ -1,31 +1,21 @@
--- `exhaustive_test::cutting::deliveries_served` is safe and ends. The loop needs no invariant; its measure is what is left of the deliveries.
+-- `exhaustive_test::cutting::deliveries_served` is safe and ends. The loop needs no invariant.
 -- Assumes nothing.
 use Prim.Native.Nat.{_-_}
-use lib.ListN.{length}
 use borrow.Author.Needs.{needs}
 use Rattle.exhaustive_test.proofs.cutting.deliveries_served.Statement.{statement}
 use Rattle.exhaustive_test.proofs.cutting.deliveries_served.Tie as tie
 
 abbrev Inv-loop : tie.InvT-loop
-Inv-loop engines energies limits parts table i₀ i = Unit {0}
+Inv-loop plan parts table i₀ i = Unit {0}
 
 abbrev μ-loop : tie.MeasureT-loop
-μ-loop engines energies limits parts table i₀ i = length energies - i
+μ-loop plan parts table i₀ i = plan .deliveries - i
 
 loop-holds : tie.Need-loop-holds Inv-loop μ-loop
 loop-holds c = search needs
 
-entry-requires : tie.Need-entry-requires Inv-loop μ-loop
-entry-requires c κs = search needs
-
-times-requires : tie.Need-times-requires Inv-loop μ-loop
-times-requires c κs = search needs
-
-entry-requires-2 : tie.Need-entry-requires-2 Inv-loop μ-loop
-entry-requires-2 c κs = search needs
-
-delivery-served-requires : tie.Need-delivery-served-requires Inv-loop μ-loop
-delivery-served-requires c κs = search needs
+delivery-kept-requires : tie.Need-delivery-kept-requires Inv-loop μ-loop
+delivery-kept-requires c κs = search needs
 
 returns : tie.Need-returns Inv-loop μ-loop
 returns c = search needs
@@ -49,10 +39,7 @@ deliveries-served-spec =
     Inv-loop
     μ-loop
     loop-holds
-    entry-requires
-    times-requires
-    entry-requires-2
-    delivery-served-requires
+    delivery-kept-requires
     returns
     add-i
     loop-less

@@ -1,28 +1,21 @@
--- `exhaustive_test::cutting::engines_suffice` is safe and ends. The loop needs no invariant; its measure is what is left of the engines.
+-- `exhaustive_test::cutting::engines_suffice` is safe and ends. The loop needs no invariant.
 -- Assumes nothing.
 use Prim.Native.Nat.{_-_}
-use lib.ListN.{length}
 use borrow.Author.Needs.{needs}
 use Rattle.exhaustive_test.proofs.cutting.engines_suffice.Statement.{statement}
 use Rattle.exhaustive_test.proofs.cutting.engines_suffice.Tie as tie
 
 abbrev Inv-loop : tie.InvT-loop
-Inv-loop capacities deliveries parts table i₀ i = Unit {0}
+Inv-loop plan minutes parts table i₀ i = Unit {0}
 
 abbrev μ-loop : tie.MeasureT-loop
-μ-loop capacities deliveries parts table i₀ i = length capacities - i
+μ-loop plan minutes parts table i₀ i = plan .engines - i
 
 loop-holds : tie.Need-loop-holds Inv-loop μ-loop
 loop-holds c = search needs
 
-entry-requires : tie.Need-entry-requires Inv-loop μ-loop
-entry-requires c κs = search needs
-
-times-requires : tie.Need-times-requires Inv-loop μ-loop
-times-requires c κs = search needs
-
-given-requires : tie.Need-given-requires Inv-loop μ-loop
-given-requires c κs = search needs
+engine-suffices-requires : tie.Need-engine-suffices-requires Inv-loop μ-loop
+engine-suffices-requires c κs = search needs
 
 returns : tie.Need-returns Inv-loop μ-loop
 returns c = search needs
@@ -46,9 +39,7 @@ engines-suffice-spec =
     Inv-loop
     μ-loop
     loop-holds
-    entry-requires
-    times-requires
-    given-requires
+    engine-suffices-requires
     returns
     add-i
     loop-less

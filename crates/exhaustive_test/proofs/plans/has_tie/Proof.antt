@@ -1,16 +1,15 @@
--- `exhaustive_test::plans::has_tie` is safe and ends. The loop needs no invariant; its measure is what is left of the deliveries.
+-- `exhaustive_test::plans::has_tie` is safe and ends. The loop needs no invariant.
 -- Assumes nothing.
 use Prim.Native.Nat.{_-_}
-use lib.ListN.{length}
 use borrow.Author.Needs.{needs}
 use Rattle.exhaustive_test.proofs.plans.has_tie.Statement.{statement}
 use Rattle.exhaustive_test.proofs.plans.has_tie.Tie as tie
 
 abbrev Inv-loop : tie.InvT-loop
-Inv-loop energies limits i₀ i = Unit {0}
+Inv-loop plan i₀ i = Unit {0}
 
 abbrev μ-loop : tie.MeasureT-loop
-μ-loop energies limits i₀ i = length energies - i
+μ-loop plan i₀ i = plan .deliveries - i
 
 loop-holds : tie.Need-loop-holds Inv-loop μ-loop
 loop-holds c = search needs

@@ -1,4 +1,4 @@
--- `exhaustive_test::plans::has_twin` is safe and ends. The loop needs no invariant; its measure is what is left of the deliveries before the one.
+-- `exhaustive_test::plans::has_twin` is safe and ends. The loop needs no invariant.
 -- Assumes nothing.
 use Prim.Native.Nat.{_-_}
 use borrow.Author.Needs.{needs}
@@ -6,10 +6,10 @@ use Rattle.exhaustive_test.proofs.plans.has_twin.Statement.{statement}
 use Rattle.exhaustive_test.proofs.plans.has_twin.Tie as tie
 
 abbrev Inv-loop : tie.InvT-loop
-Inv-loop energies limits delivery energy limit i₀ i = Unit {0}
+Inv-loop delivery plan energy limit i₀ i = Unit {0}
 
 abbrev μ-loop : tie.MeasureT-loop
-μ-loop energies limits delivery energy limit i₀ i = delivery - i
+μ-loop delivery plan energy limit i₀ i = delivery - i
 
 entry-requires : tie.Need-entry-requires Inv-loop μ-loop
 entry-requires c κs = search needs

@@ -1,4 +1,4 @@
--- `exhaustive_test::plans::power` is safe and ends. The loop needs no invariant; its measure is what is left of the exponent.
+-- `exhaustive_test::plans::power` is safe and ends. The loop needs no invariant.
 -- Assumes nothing.
 use Prim.Native.Nat.{_-_}
 use borrow.Author.Needs.{needs}

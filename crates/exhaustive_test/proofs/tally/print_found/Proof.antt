@@ -1,4 +1,4 @@
--- `exhaustive_test::tally::print_found` is safe and ends. The loop needs no invariant; its measure is what is left of the minutes.
+-- `exhaustive_test::tally::print_found` is safe and ends. The loop needs no invariant.
 -- Assumes nothing.
 use Prim.Native.Nat.{_-_}
 use borrow.Author.Needs.{needs}
@@ -6,25 +6,34 @@ use Rattle.exhaustive_test.proofs.tally.print_found.Statement.{statemen
 use Rattle.exhaustive_test.proofs.tally.print_found.Tie as tie
 
 abbrev Inv-loop : tie.InvT-loop
-Inv-loop tally minutes i₀ i = Unit {0}
+Inv-loop found i₀ t5 i = Unit {0}
 
 abbrev μ-loop : tie.MeasureT-loop
-μ-loop tally minutes i₀ i = minutes - i
+μ-loop found i₀ t5 i = 9 - i
 
 loop-holds : tie.Need-loop-holds Inv-loop μ-loop
 loop-holds c = search needs
 
-add-i : tie.Need-add-i Inv-loop μ-loop
-add-i c = search needs
-
-plus-requires : tie.Need-plus-requires Inv-loop μ-loop
-plus-requires c κs = search needs
+slice-aggregate-entry : tie.Need-slice-aggregate-entry Inv-loop μ-loop
+slice-aggregate-entry c = search needs
 
 entry-requires : tie.Need-entry-requires Inv-loop μ-loop
 entry-requires c κs = search needs
 
-print-found-at-requires : tie.Need-print-found-at-requires Inv-loop μ-loop
-print-found-at-requires c κs = search needs
+slice-aggregate-words-page : tie.Need-slice-aggregate-words-page Inv-loop μ-loop
+slice-aggregate-words-page c = search needs
+
+slice-aggregate-words-page-2 : tie.Need-slice-aggregate-words-page-2 Inv-loop μ-loop
+slice-aggregate-words-page-2 c = search needs
+
+words-page-requires : tie.Need-words-page-requires Inv-loop μ-loop
+words-page-requires c κs = search needs
+
+print-requires : tie.Need-print-requires Inv-loop μ-loop
+print-requires c κs = search needs
+
+add-i : tie.Need-add-i Inv-loop μ-loop
+add-i c = search needs
 
 loop-less : tie.Need-loop-less Inv-loop μ-loop
 loop-less c = search needs
@@ -42,10 +51,13 @@ print-found-spec =
     Inv-loop
     μ-loop
     loop-holds
-    add-i
-    plus-requires
+    slice-aggregate-entry
     entry-requires
-    print-found-at-requires
+    slice-aggregate-words-page
+    slice-aggregate-words-page-2
+    words-page-requires
+    print-requires
+    add-i
     loop-less
     loop-again
     returns)

@@ -1,27 +1,27 @@
--- `exhaustive_test::cutting::drawn_from` is safe and ends. The loop needs no invariant; its measure is what is left of the engines.
+-- `exhaustive_test::cutting::sum` is safe and ends. The loop needs no invariant.
 -- Assumes nothing.
 use Prim.Native.Nat.{_-_}
 use borrow.Author.Needs.{needs}
-use Rattle.exhaustive_test.proofs.cutting.drawn_from.Statement.{statement}
-use Rattle.exhaustive_test.proofs.cutting.drawn_from.Tie as tie
+use Rattle.exhaustive_test.proofs.cutting.sum.Statement.{statement}
+use Rattle.exhaustive_test.proofs.cutting.sum.Tie as tie
 
 abbrev Inv-loop : tie.InvT-loop
-Inv-loop table engines delivery first count₀ i₀ count i = Unit {0}
+Inv-loop table first step count most sum₀ place₀ i₀ sum place i = Unit {0}
 
 abbrev μ-loop : tie.MeasureT-loop
-μ-loop table engines delivery first count₀ i₀ count i = engines - i
-
-times-requires : tie.Need-times-requires Inv-loop μ-loop
-times-requires c κs = search needs
+μ-loop table first step count most sum₀ place₀ i₀ sum place i = count - i
 
 loop-holds : tie.Need-loop-holds Inv-loop μ-loop
 loop-holds c = search needs
 
-plus-requires : tie.Need-plus-requires Inv-loop μ-loop
-plus-requires c κs = search needs
-
 entry-requires : tie.Need-entry-requires Inv-loop μ-loop
 entry-requires c κs = search needs
+
+least-requires : tie.Need-least-requires Inv-loop μ-loop
+least-requires c κs = search needs
+
+plus-requires : tie.Need-plus-requires Inv-loop μ-loop
+plus-requires c κs = search needs
 
 plus-requires-2 : tie.Need-plus-requires-2 Inv-loop μ-loop
 plus-requires-2 c κs = search needs
@@ -38,16 +38,16 @@ loop-again c = search needs
 returns : tie.Need-returns Inv-loop μ-loop
 returns c = search needs
 
-pub drawn-from-spec : {M : Type 1} → statement M
-drawn-from-spec =
+pub sum-spec : {M : Type 1} → statement M
+sum-spec =
     tie.close
     (tie.spec
     Inv-loop
     μ-loop
-    times-requires
     loop-holds
-    plus-requires
     entry-requires
+    least-requires
+    plus-requires
     plus-requires-2
     add-i
     loop-less
