@@ -2,6 +2,7 @@
 pub mod Digits
 pub mod Front
 pub mod Lines
+pub mod Loops
 pub mod Putting
 pub mod Reads
 pub mod Values

@@ -3,5 +3,4 @@ pub mod Input
 pub mod Numbers
 pub mod Page
 pub mod Shown
-pub mod Texts
 pub mod Words

@@ -11,8 +11,9 @@ use Rattle.planfile.specs.Laws.Decimals.{decimal-plain, decimal-writable}
 use Rattle.planfile.specs.Numerals.{decimal}
 use Rattle.lines.specs.declared.Wrote.the-variants.{Next}
 use Rattle.lines.specs.Lines.{lineTexts, fileTexts, PutLines}
-use Rattle.lines.specs.Putting.{Text, field, number, Output, output, putAt, putAll, Puts}
-use Rattle.lines.specs.Laws.Putting.{Joined, joined-none, joined-more, joined-text, joined-append, all-append, all-kept, all-put, no-text, then}
+use Rattle.lines.specs.Putting.{field, number, Output, output, putAt, Puts}
+use Rattle.lines.specs.Laws.Loops.{TextsLeft, all-left, left-kept, next-put, last-put}
+use Rattle.lines.specs.Laws.Putting.{Joined, joined-none, joined-more, joined-text, joined-append, all-put, no-text, then}
 use Rattle.lines.specs.Laws.Values.{written-plain}
 
 -- ---- values
@@ -77,29 +78,22 @@ then-lines {lines} {others} p q = record { texts = rw (texts-append lines others
 
 -- ---- lines in a loop
 
--- lines that are still to be put: with them the output becomes what all the lines make of it as it was at first
+-- lines that are still to be put, as the texts that they are
 pub record LinesLeft (lines : List (List (List ℕ))) (out : Output) (all : List (List (List ℕ))) (first : Output) : Type 0 where
-  pub makes : putAll (fileTexts lines) out ≡ putAll (fileTexts all) first
+  pub texts : TextsLeft (fileTexts lines) out (fileTexts all) first
 
-pub all-left : {lines : List (List (List ℕ))} {out : Output} → LinesLeft lines out lines out
-all-left = record { makes = refl }
+pub lines-left : {lines : List (List (List ℕ))} {out : Output} → LinesLeft lines out lines out
+lines-left = record { texts = all-left }
 
-pub left-kept : {lines all : List (List (List ℕ))} {out first : Output} → LinesLeft lines out all first → length (out .bytes) ≡ length (first .bytes)
-left-kept {lines} {all} {out} {first} left =
-    sym (all-kept (fileTexts lines) out) ∙ ap (λ (o : Output). length (o .bytes)) (left .makes) ∙ all-kept (fileTexts all) first
+pub lines-kept : {lines all : List (List (List ℕ))} {out first : Output} → LinesLeft lines out all first → length (out .bytes) ≡ length (first .bytes)
+lines-kept left = left-kept (left .texts)
 
 -- the next of them are put
-pub next-put : {lines others rest all : List (List (List ℕ))} {out after first : Output} → LinesLeft rest out all first → rest ≡ lines ++ others
+pub lines-put : {lines others rest all : List (List (List ℕ))} {out after first : Output} → LinesLeft rest out all first → rest ≡ lines ++ others
     → PutLines lines out after → LinesLeft others after all first
-next-put {lines} {others} {rest} {out = out} left parts put =
-    record {
-      makes =
-          ap (putAll (fileTexts others)) (put .texts .all) ∙ sym (all-append (fileTexts lines) (fileTexts others) out)
-          ∙ ap (λ (texts : List Text). putAll texts out) (sym (texts-append lines others)) ∙ ap (λ (lines : List _). putAll (fileTexts lines) out) (sym parts)
-          ∙ left .makes;
-    }
+lines-put {lines} {others} left parts put = record { texts = next-put (left .texts) (ap fileTexts parts ∙ texts-append lines others) (put .texts) }
 
 -- when none is left, all are put
 pub all-lines : {all : List (List (List ℕ))} {out first : Output} → LinesLeft [] out all first → PutLines all first out
-unfolding fileTexts putAll
-all-lines left = record { texts = record { all = left .makes } }
+unfolding fileTexts
+all-lines left = record { texts = last-put (left .texts) no-text }

@@ -7,7 +7,7 @@ use Prim.Native.Nat.{ℕ, _+_, _-_, _≤_}
 use native.Mathlib.Omega.{arith}
 use denote.Ref.{now}
 use lib.ListN.{length, getD}
-use Rattle.lines.specs.Laws.Lines.{LinesLeft, all-left, left-kept, next-put, all-lines}
+use Rattle.lines.specs.Laws.Lines.{LinesLeft, lines-left, lines-kept, lines-put, all-lines}
 use Rattle.lines.specs.Putting.{output}
 use Rattle.planning.specs.Tables.{at}
 use Rattle.planfile.specs.Numerals.{decimal}
@@ -63,7 +63,7 @@ no-line c =
     row-none _ _ _ (loop .loop .i) (rw (count loop) (omega arith)) (omega arith) (omega arith)
 
 loop-holds : tie.Need-loop-holds Inv-loop μ-loop
-loop-holds c = (omega arith, all-left)
+loop-holds c = (omega arith, lines-left)
 
 mul-piece : tie.Need-mul-piece Inv-loop μ-loop
 mul-piece c = omega arith
@@ -91,13 +91,13 @@ loop-again c =
       ⊎-elim
           (λ w.
           let found : tie.After-name-at Inv-loop μ-loop = record { before = record { before = c .before; if1 = w .0 }; name-at = w .1 } in
-          rw (w .6, w .7) (next-put left (next-line found) (w .3 .ensures)))
+          rw (w .6, w .7) (lines-put left (next-line found) (w .3 .ensures)))
           (λ w. rw (w .1, w .2) (rw (no-line (record { before = c .before; if1 = w .0 })) at left))
           (c .if1 .came),
     )
 
 same-length : tie.Need-same-length Inv-loop μ-loop
-same-length c = left-kept (c .before .loop .inv .1)
+same-length c = lines-kept (c .before .loop .inv .1)
 
 returns : tie.Need-returns Inv-loop μ-loop
 returns c =

@@ -8,7 +8,7 @@ use native.Mathlib.Omega.{arith}
 use denote.Ref.{now}
 use lib.ListN.{length, take, drop, getD, length-drop}
 use lib.Seq.{length-take-le}
-use Rattle.lines.specs.Laws.Lines.{LinesLeft, all-left, left-kept, next-put, all-lines}
+use Rattle.lines.specs.Laws.Lines.{LinesLeft, lines-left, lines-kept, lines-put, all-lines}
 use Rattle.lines.specs.Putting.{output}
 use Rattle.planning.specs.Tables.{pieceIn, at}
 use Rattle.planfile.specs.Print.{Line, rowLines, pieceLines}
@@ -90,7 +90,7 @@ next-lines c =
 loop-holds : tie.Need-loop-holds Inv-loop μ-loop
 loop-holds c =
     let start = c .before .before .before .before .before .before in
-    (omega arith, rw (zero-mul (start .args .plan .engines)) all-left)
+    (omega arith, rw (zero-mul (start .args .plan .engines)) lines-left)
 
 mul-first : tie.Need-mul-first Inv-loop μ-loop
 mul-first c = omega (arith, row-inside c)
@@ -144,10 +144,10 @@ loop-again c =
     let call = c .before .before in
     let found = call .before .before .before .before .before in
     let loop = found-at found .before .before in
-    (omega (arith, found-at found .if1 .taken), next-put (loop .loop .inv .1) (next-lines found) (rw (row-length (found-at found)) at (call .write-row .ensures)))
+    (omega (arith, found-at found .if1 .taken), lines-put (loop .loop .inv .1) (next-lines found) (rw (row-length (found-at found)) at (call .write-row .ensures)))
 
 same-length : tie.Need-same-length Inv-loop μ-loop
-same-length c = left-kept (c .before .before .loop .inv .1)
+same-length c = lines-kept (c .before .before .loop .inv .1)
 
 returns : tie.Need-returns Inv-loop μ-loop
 returns c =

@@ -9,11 +9,11 @@ use denote.Ref.{now}
 use lib.ListN.{length, drop, getD, length-drop}
 use lib.Seq.{take-all}
 use borrow.Author.Tests.{not-true, not-false}
+use Rattle.lines.specs.Laws.Loops.{TextsLeft, all-left, left-kept, next-put, last-put}
 use Rattle.lines.specs.Putting.{output}
 use Rattle.lines.specs.Laws.Putting.{no-text}
 use Rattle.report.specs.Numbers.{startsWith, textsBehind, numberTexts}
 use Rattle.report.specs.Laws.Numbers.{texts-end, run-goes-on, run-ends}
-use Rattle.report.specs.Laws.Texts.{TextsLeft, all-left, left-kept, next-put, last-put}
 use Rattle.report.proofs.numbers.write_numbers.Statement.{statement}
 use Rattle.report.proofs.numbers.write_numbers.Tie as tie
 

@@ -6,11 +6,11 @@ use native.Mathlib.Omega.{arith}
 use lib.ListN.{length, drop}
 use borrow.Author.Needs.{needs}
 use Rattle.rfc4180.specs.Text.{ascii}
+use Rattle.lines.specs.Laws.Loops.{TextsLeft, all-left, next-put, last-put}
 use Rattle.lines.specs.Putting.{output}
 use Rattle.lines.specs.Laws.Putting.{then, puts-kept}
 use Rattle.report.specs.Shown.{closedTexts, shownTexts}
 use Rattle.report.specs.Laws.Shown.{texts-from, texts-end}
-use Rattle.report.specs.Laws.Texts.{TextsLeft, all-left, next-put, last-put}
 use Rattle.report.proofs.shown.write_shown.Statement.{statement}
 use Rattle.report.proofs.shown.write_shown.Tie as tie
 

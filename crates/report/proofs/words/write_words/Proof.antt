@@ -6,10 +6,10 @@ use native.Mathlib.Omega.{arith}
 use denote.Ref.{now}
 use lib.ListN.{length, drop}
 use borrow.Author.Needs.{needs}
+use Rattle.lines.specs.Laws.Loops.{TextsLeft, all-left, left-kept, next-put, last-put}
 use Rattle.lines.specs.Putting.{output}
 use Rattle.lines.specs.Laws.Putting.{no-text}
 use Rattle.report.specs.Laws.Numbers.{nothing-behind}
-use Rattle.report.specs.Laws.Texts.{TextsLeft, all-left, left-kept, next-put, last-put}
 use Rattle.report.specs.Laws.Words.{number-left, words-end, word-number, word-byte}
 use Rattle.report.specs.Words.{wordTexts}
 use Rattle.report.proofs.words.write_words.Statement.{statement}
