@@ -164,6 +164,8 @@ TURNED_DOWN = [
     ("second E1 in quotes, equal by value", lines(PLAN, ENGINE, 'engine,"E1",5,5'), (5, 3)),
     ("second quoted name, equal by value", lines(PLAN, 'engine,"a""b",5,5', 'engine,"a""b",5,5'), (5, 3)),
     ("second delivery D", lines(PLAN, ENGINE, "delivery,D,1,1", "delivery,D,1,1"), (5, 4)),
+    ("a third engine by the second one's name", lines(PLAN, ENGINE, "engine,E2,5,5", "engine,E2,5,5"), (5, 4)),
+    ("a third delivery by the second one's name", lines(PLAN, ENGINE, "delivery,C,1,1", "delivery,D,1,1", "delivery,D,1,1"), (5, 5)),
     ("no name", lines(PLAN, "engine,,5,5"), (5, 2)),
     ("no name in quotes", lines(PLAN, 'engine,"",5,5'), (5, 2)),
     ("a name of 17 bytes", lines(PLAN, f"engine,{NAME17},5,5"), (5, 2)),
