@@ -7,8 +7,6 @@ use lib.Dec.{leb}
 use lib.ListN.{length}
 use Rattle.planning.specs.declared.Answer.{Answer}
 use Rattle.planning.specs.declared.Fault.the-variants.{Space}
-use Rattle.planning.specs.declared.Outcome.{Outcome}
-use Rattle.planning.specs.declared.Outcome.the-variants.{Found, None, Stopped}
 use Rattle.planning.specs.Modes.{planned, answerOf, tableAfter, sparesAfter}
 use Rattle.planning.specs.Tables.{overFront}
 use Rattle.planfile.specs.declared.FileAnswer.{FileAnswer}
@@ -19,13 +17,11 @@ use Rattle.planreader.specs.declared.FilePlan.{FilePlan as ByValue}
 use Rattle.planreader.specs.Plans.{planBy, UsablePlan}
 
 -- the answer to a plan, with what is left in tables of the plan's own lengths that were lent for it
-pub record Answers (p : ByValue) (answer′ : Answer) (pieces spares : List ℕ) : Type 0 where
+pub record Answers (p : ByValue) (answer′ : Answer) (ownTable ownSpare pieces spares : List ℕ) : Type 0 where
   pub usable : UsablePlan p
   pub answer : answer′ ≡ answerOf (planned (unnamed (planBy p)))
-  pub ownTable : List ℕ
   pub cells : length ownTable ≡ p .deliveries * p .engines
   pub table : pieces ≡ tableAfter (unnamed (planBy p)) ownTable
-  pub ownSpare : List ℕ
   pub count : length ownSpare ≡ p .engines
   pub spare : spares ≡ sparesAfter (unnamed (planBy p)) ownSpare
 
@@ -50,9 +46,3 @@ pub record HandedOver (f : FilePlan) (r : FileAnswer) (before after : Lent) : Ty
   pub table : after .table ≡ onExit (withSpace f (before .output)) (before .table) (λ f. tableAfter (unnamed f) (before .table))
   pub spare : after .spare ≡ onExit (withSpace f (before .output)) (before .spare) (λ f. sparesAfter (unnamed f) (before .spare))
   pub output : after .output ≡ onExit (withSpace f (before .output)) (before .output) (λ f. overFront (printed f) (before .output))
-
--- numbers, which found alone writes
-unfoldable pub whereFound : Outcome → (new lent : List ℕ) → List ℕ
-whereFound Found new lent = overFront new lent
-whereFound None new lent = lent
-whereFound Stopped new lent = lent

@@ -2,4 +2,5 @@
 pub mod Printing
 pub mod RefusalPrint
 pub mod HandOver
+pub mod Aside
 pub mod FileCall

@@ -1,4 +1,4 @@
-// The plan of a file answered: planned on tables of its own, printed, and handed over where the print fits.
+// The call with a file: answered in the lists lent where every print fits there, and otherwise aside.
 use crate::print;
 use lines::Wrote;
 use planfile::FileAnswer;
@@ -10,68 +10,17 @@ use planning::MOST_CELLS;
 use planning::MOST_ENGINES;
 use planning::Outcome;
 use planning::Refusal;
+use planning::Verdict;
 use planreader::FilePlan;
 ghost use mathlib.Core.Path.{_≡_};
-ghost use mathlib.Core.List.{List, [], _∷_};
-ghost use Prim.Native.Nat.{ℕ, _*_};
+ghost use Prim.Native.Nat.{_*_, _≤_};
 ghost use lib.ListN.{length};
-ghost use Rattle.lines.specs.declared.Wrote.the-variants.{Next};
-ghost use Rattle.lines.specs.Putting.{plain, output, Puts};
 ghost use Rattle.planning.specs.Bounds.{mostCells, mostEngines};
-ghost use Rattle.planfile.specs.FileCall.{printed};
+ghost use Rattle.planfile.specs.Print.{longestPrint};
+ghost use Rattle.planfile.specs.Promises.{FilePromised};
 ghost use Rattle.planreader.specs.Plans.{UsablePlan, planBy};
+ghost use Rattle.filecall.specs.Calls.{callWith};
 ghost use Rattle.filecall.specs.HandOver.{Answers, lentLists, HandedOver};
-
-// Prints an answer at the front of an output. The print is made aside, so that nothing is written where it does not fit.
-fn print_whole(plan: FilePlan, answer: Answer, pieces: &[u64], out: &mut [u8]) -> Wrote
-    requires { ⌜ ((spares : List ℕ) × Answers plan answer (now pieces) spares) ⌝ }
-    ensures { λ r. ⌜ Puts (plain (printed (planBy plan)) ∷ []) (output (Next 0) (now (out .entry))) (output r (now (out .exit))) ⌝ }
-{
-    let mut made = [0u8; LONGEST_PRINT];
-    let print = print::write(plan, answer, pieces, &mut made);
-    // never anything else: every print fits there
-    let Wrote::Next(n) = print else {
-        return print;
-    };
-    lines::write_bytes(&made[..n], out, Wrote::Next(0))
-}
-
-// Prints an answer and, where the print fits into the output, hands over the print and, with found, the pieces and the spares. The print goes
-// first, so that 9 is decided before a table is written.
-fn hand_over<'a>(
-    plan: FilePlan,
-    answer: Answer,
-    pieces: &'a [u64],
-    spares: &'a [u64],
-    table: &mut [u64],
-    spare: &mut [u64],
-    output: &mut [u8],
-) -> FileAnswer
-    requires { ⌜
-        Answers plan answer (now pieces) (now spares)
-        × (length (now table) ≡ mostCells)
-        × (length (now spare) ≡ mostEngines)
-        ⌝ }
-    ensures { λ r. ⌜
-        HandedOver (planBy plan) r
-        (lentLists (now (table .entry)) (now (spare .entry)) (now (output .entry)))
-        (lentLists (now (table .exit)) (now (spare .exit)) (now (output .exit)))
-        ⌝ }
-{
-    let print = print_whole(plan, answer, pieces, output);
-    let Wrote::Next(n) = print else {
-        return FileAnswer::Refused(Refusal {
-            fault: Fault::Space,
-            place: 0,
-        });
-    };
-    let outcome = answer.outcome;
-    if let Outcome::Found = outcome {
-        planning::copy(pieces, table);
-        planning::copy(spares, spare);
-    }
-    FileAnswer::Printed(answer, n)
-}
 
 // The plan answered, on tables of its own lengths.
 fn planned(plan: FilePlan, pieces: &mut [u64], spares: &mut [u64]) -> Answer
@@ -80,7 +29,7 @@ fn planned(plan: FilePlan, pieces: &mut [u64], spares: &mut [u64]) -> Answer
         × (length (now pieces) ≡ plan .deliveries * plan .engines)
         × (length (now spares) ≡ plan .engines)
         ⌝ }
-    ensures { λ r. ⌜ Answers plan r (now (pieces .exit)) (now (spares .exit)) ⌝ }
+    ensures { λ r. ⌜ Answers plan r (now (pieces .entry)) (now (spares .entry)) (now (pieces .exit)) (now (spares .exit)) ⌝ }
 {
     let mode = plan.mode;
     let engines = plan.engines;
@@ -111,40 +60,14 @@ fn planned(plan: FilePlan, pieces: &mut [u64], spares: &mut [u64]) -> Answer
     answer
 }
 
-// Answers a plan, lent tables of its own lengths to plan on.
-fn answer_on(
-    plan: FilePlan,
-    pieces: &mut [u64],
-    spares: &mut [u64],
-    table: &mut [u64],
-    spare: &mut [u64],
-    output: &mut [u8],
-) -> FileAnswer
+// Answers a plan that was read in the lists lent, of the right lengths and with space for every print.
+fn answer(plan: FilePlan, table: &mut [u64], spare: &mut [u64], output: &mut [u8]) -> FileAnswer
     requires { ⌜
         UsablePlan plan
-        × (length (now pieces) ≡ plan .deliveries * plan .engines)
-        × (length (now spares) ≡ plan .engines)
         × (length (now table) ≡ mostCells)
         × (length (now spare) ≡ mostEngines)
+        × (longestPrint ≤ length (now output))
         ⌝ }
-    ensures { λ r. ⌜
-        HandedOver (planBy plan) r
-        (lentLists (now (table .entry)) (now (spare .entry)) (now (output .entry)))
-        (lentLists (now (table .exit)) (now (spare .exit)) (now (output .exit)))
-        ⌝ }
-{
-    let answer = planned(plan, &mut *pieces, &mut *spares);
-    hand_over(plan, answer, &*pieces, &*spares, table, spare, output)
-}
-
-// Answers a plan that was read, lent tables of the right lengths. It is planned on others, so that 9 is decided before those are written.
-pub(crate) fn answer(
-    plan: FilePlan,
-    table: &mut [u64],
-    spare: &mut [u64],
-    output: &mut [u8],
-) -> FileAnswer
-    requires { ⌜ UsablePlan plan × (length (now table) ≡ mostCells) × (length (now spare) ≡ mostEngines) ⌝ }
     ensures { λ r. ⌜
         HandedOver (planBy plan) r
         (lentLists (now (table .entry)) (now (spare .entry)) (now (output .entry)))
@@ -153,14 +76,82 @@ pub(crate) fn answer(
 {
     let engines = plan.engines;
     let cells = plan.deliveries * engines;
-    let mut pieces = [0u64; MOST_CELLS];
-    let mut spares = [0u64; MOST_ENGINES];
-    answer_on(
-        plan,
-        &mut pieces[..cells],
-        &mut spares[..engines],
-        table,
-        spare,
-        output,
-    )
+    let answer = planned(plan, &mut table[..cells], &mut spare[..engines]);
+    let print = print::write(plan, answer, &table[..cells], output);
+    // never anything else: every print fits there
+    let Wrote::Next(n) = print else {
+        return FileAnswer::Refused(Refusal {
+            fault: Fault::Space,
+            place: 0,
+        });
+    };
+    FileAnswer::Printed(answer, n)
+}
+
+// The call where tables of the right lengths come with space for every print: it is answered in the lists lent.
+pub(crate) fn in_place(
+    file: &[u8],
+    table: &mut [u64],
+    spare: &mut [u64],
+    output: &mut [u8],
+) -> FileAnswer
+    requires { ⌜
+        (length (now table) ≡ mostCells → length (now spare) ≡ mostEngines → longestPrint ≤ length (now output))
+        ⌝ }
+    ensures { λ r. ⌜
+        FilePromised
+        (callWith (now (file .entry)) (now (table .entry)) (now (spare .entry)) (now (output .entry)))
+        r (now (table .exit)) (now (spare .exit)) (now (output .exit))
+        ⌝ }
+{
+    let reading = planreader::read(file);
+    let verdict = reading.verdict;
+    match verdict {
+        Verdict::Refused(refusal) => FileAnswer::Refused(refusal),
+        Verdict::Accepted => {
+            if table.len() != MOST_CELLS || spare.len() != MOST_ENGINES {
+                return FileAnswer::Refused(Refusal {
+                    fault: Fault::Space,
+                    place: 0,
+                });
+            }
+            answer(reading.plan, table, spare, output)
+        }
+    }
+}
+
+// The call answered in lists of its own, which are handed over where the print fits: so 9 is decided before anything lent is written.
+pub(crate) fn aside(
+    file: &[u8],
+    table: &mut [u64],
+    spare: &mut [u64],
+    output: &mut [u8],
+) -> FileAnswer
+    requires { ⌜ (length (now table) ≡ mostCells) × (length (now spare) ≡ mostEngines) ⌝ }
+    ensures { λ r. ⌜
+        FilePromised
+        (callWith (now (file .entry)) (now (table .entry)) (now (spare .entry)) (now (output .entry)))
+        r (now (table .exit)) (now (spare .exit)) (now (output .exit))
+        ⌝ }
+{
+    let mut own_table = [0u64; MOST_CELLS];
+    let mut own_spare = [0u64; MOST_ENGINES];
+    let mut made = [0u8; LONGEST_PRINT];
+    planning::copy(&*table, &mut own_table);
+    planning::copy(&*spare, &mut own_spare);
+    let answer = in_place(file, &mut own_table, &mut own_spare, &mut made);
+    let FileAnswer::Printed(_, n) = answer else {
+        return answer;
+    };
+    let front = Wrote::Next(0);
+    let print = lines::write_bytes(&made[..n], output, front);
+    let Wrote::Next(_) = print else {
+        return FileAnswer::Refused(Refusal {
+            fault: Fault::Space,
+            place: 0,
+        });
+    };
+    planning::copy(&own_table, table);
+    planning::copy(&own_spare, spare);
+    answer
 }

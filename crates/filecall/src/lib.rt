@@ -3,11 +3,9 @@ mod call;
 mod print;
 
 use planfile::FileAnswer;
-use planning::Fault;
+use planfile::LONGEST_PRINT;
 use planning::MOST_CELLS;
 use planning::MOST_ENGINES;
-use planning::Refusal;
-use planning::Verdict;
 pub use print::write_refusal;
 ghost use Rattle.planfile.specs.Promises.{FilePromised};
 ghost use Rattle.filecall.specs.Calls.{callWith};
@@ -20,18 +18,8 @@ pub fn plan_file(file: &[u8], table: &mut [u64], spare: &mut [u64], output: &mut
         r (now (table .exit)) (now (spare .exit)) (now (output .exit))
         ⌝ }
 {
-    let reading = planreader::read(file);
-    let verdict = reading.verdict;
-    match verdict {
-        Verdict::Refused(refusal) => FileAnswer::Refused(refusal),
-        Verdict::Accepted => {
-            if table.len() != MOST_CELLS || spare.len() != MOST_ENGINES {
-                return FileAnswer::Refused(Refusal {
-                    fault: Fault::Space,
-                    place: 0,
-                });
-            }
-            call::answer(reading.plan, table, spare, output)
-        }
+    if LONGEST_PRINT <= output.len() || table.len() != MOST_CELLS || spare.len() != MOST_ENGINES {
+        return call::in_place(file, table, spare, output);
     }
+    call::aside(file, table, spare, output)
 }

@@ -4,43 +4,40 @@ use mathlib.Core.List.{List, [], _∷_, _++_, map, zipWith}
 use Prim.Native.Nat.{ℕ, zero, suc, _*_, _≤_, _<_}
 use native.Mathlib.Nat.{mul-le-mul}
 use native.Mathlib.Omega.{arith}
-use lib.ListN.{length, take}
-use lib.Seq.{length-take-le, take-all, take-append-seam}
-use borrow.Author.Tests.{le-leb, lt-leb}
+use lib.ListN.{length, take, drop, take-append-drop}
+use lib.Seq.{length-take-le}
+use borrow.Author.Tests.{le-leb}
 use Rattle.lines.specs.declared.Wrote.{Wrote}
 use Rattle.lines.specs.declared.Wrote.the-variants.{Next}
-use Rattle.lines.specs.Laws.Front.{atFront, behind, lines-at-front}
+use Rattle.lines.specs.Laws.Front.{behind, lines-at-front}
 use Rattle.lines.specs.Lines.{PutLines}
 use Rattle.lines.specs.Putting.{Output, output}
 use Rattle.planning.specs.declared.Allocation.{Allocation}
 use Rattle.planning.specs.declared.Allocation.the-variants.{Answered}
 use Rattle.planning.specs.declared.Allocation.the-variants as allocations
 use Rattle.planning.specs.declared.Answer.{Answer}
-use Rattle.planning.specs.declared.Fault.the-variants.{Space}
-use Rattle.planning.specs.declared.Outcome.{Outcome}
-use Rattle.planning.specs.declared.Outcome.the-variants.{Found, None, Stopped}
 use Rattle.planning.specs.declared.Refusal.{Refusal}
 use Rattle.planning.specs.Bounds.{mostEngines, mostDeliveries, mostCells}
 use Rattle.planning.specs.Laws.Modes.{planned-searched}
 use Rattle.planning.specs.Laws.Numbers.{unrefused-iff}
 use Rattle.planning.specs.Laws.OnExit.{over-whole}
-use Rattle.planning.specs.Laws.Soundness.{plan-length}
+use Rattle.planning.specs.Laws.Soundness.{plan-length, length-spares}
 use Rattle.planning.specs.Laws.Tables.{length-listed, listed-same, map-listed}
-use Rattle.planning.specs.Modes.{planned, answerOf, outcomeOf, spares, tableBy, sparesBy, tableAfter, sparesAfter}
+use Rattle.planning.specs.Modes.{planned, answerOf, spares, tableBy, sparesBy, tableAfter, sparesAfter}
 use Rattle.planning.specs.Numbers.{Call, Accepted, planOf, enginesOf, deliveriesOf, answeredBy, allocation, unlessRefused, tableOnExit, spareOnExit, callOn}
 use Rattle.planning.specs.Plan.{Plan}
 use Rattle.planning.specs.Search.{Result, found, none, stopped}
 use Rattle.planning.specs.Tables.{overFront, listed, at}
-use Rattle.planfile.specs.declared.FileAnswer.the-variants.{Printed, Refused}
+use Rattle.planfile.specs.declared.FileAnswer.the-variants.{Printed}
 use Rattle.planfile.specs.FileCall.{answerBy, onExit, printed}
-use Rattle.planfile.specs.FilePlan.{FilePlan, NamedEngine, NamedDelivery, unnamed, engineOf, deliveryOf}
+use Rattle.planfile.specs.FilePlan.{NamedEngine, NamedDelivery, unnamed, engineOf, deliveryOf}
 use Rattle.planfile.specs.Laws.Holding.{engine-count, delivery-count}
 use Rattle.planfile.specs.Laws.Print.{print-writable}
 use Rattle.planfile.specs.Laws.PrintLength.{print-length}
 use Rattle.planfile.specs.Print.{linesOf, answerLines, printOf, longestPrint}
-use Rattle.planfile.specs.Reading.{_>>=_, fault, require}
+use Rattle.planfile.specs.Reading.{_>>=_, require}
 use Rattle.planreader.specs.declared.FilePlan.{FilePlan as ByValue}
-use Rattle.filecall.specs.HandOver.{Answers, withSpace, Lent, lentLists, HandedOver, whereFound}
+use Rattle.filecall.specs.HandOver.{Answers, withSpace, lentLists, HandedOver}
 use Rattle.planreader.specs.Columns.{Columns}
 use Rattle.planreader.specs.Plans.{nameList, NamesHeld, itemsIn, Holding, engineColumns, deliveryColumns, planBy, UsablePlan}
 use Rattle.filecall.specs.Laws.Printing.{print-by-names}
@@ -115,15 +112,13 @@ module _ {p : ByValue} (u : UsablePlan p) (table spare : List ℕ) where
         absurd (omega arith)
 
     pub plan-answered : {a : Allocation} {answer : Answer} {pieces left : List ℕ} → a ≡ allocation callBy → pieces ≡ tableOnExit callBy
-        → left ≡ spareOnExit callBy → a ≡ Answered answer → Answers p answer pieces left
+        → left ≡ spareOnExit callBy → a ≡ Answered answer → Answers p answer table spare pieces left
     plan-answered is drawn spared said =
         record {
           usable = u;
           answer = let same : Answered _ ≡ Answered _ = sym said ∙ is ∙ call-answered .0 in cc;
-          ownTable = table;
           cells = cells;
           table = drawn ∙ call-answered .1;
-          ownSpare = spare;
           count = count;
           spare = spared ∙ call-answered .2;
         }
@@ -158,19 +153,19 @@ module _ {p : ByValue} (u : UsablePlan p) where
 
 -- ---- a plan that is answered
 
-module _ {p : ByValue} {answer : Answer} {pieces left : List ℕ} (a : Answers p answer pieces left) where
+module _ {p : ByValue} {answer : Answer} {ownTable ownSpare pieces left : List ℕ} (a : Answers p answer ownTable ownSpare pieces left) where
   abbrev plan : Plan
   plan = unnamed (planBy p)
 
   -- in tables of its own lengths stands just what is found
   own-table : {tries : ℕ} {table : List ℕ} → planned plan .result ≡ found tries table → pieces ≡ table
   unfolding tableAfter tableBy
-  own-table {table = table} e = a .table ∙ rw e (over-whole table (a .ownTable) (found-cells (a .usable) e ∙ sym (a .cells)))
+  own-table {table = table} e = a .table ∙ rw e (over-whole table ownTable (found-cells (a .usable) e ∙ sym (a .cells)))
 
   own-spare : {tries : ℕ} {table : List ℕ} → planned plan .result ≡ found tries table → left ≡ spares plan (planned plan .minutes) table
   unfolding sparesAfter sparesBy spares
   own-spare {table = table} e =
-      a .spare ∙ rw e (over-whole _ (a .ownSpare) (length-listed (length (plan .engines)) _ ∙ plan-counts (a .usable) .0 ∙ sym (a .count)))
+      a .spare ∙ rw e (over-whole _ ownSpare (length-listed (length (plan .engines)) _ ∙ plan-counts (a .usable) .0 ∙ sym (a .count)))
 
   -- and they keep their lengths
   pub own-cells : length pieces ≡ p .deliveries * p .engines
@@ -215,70 +210,48 @@ module _ {p : ByValue} {answer : Answer} {pieces left : List ℕ} (a : Answers p
         let u = a .usable in
         lines-at-front (print-writable (planBy p) (u .enginesNamed) (u .deliveriesNamed) (planned plan)) (omega (arith, print-short)) (rw lines-are at put)
 
-    pub print-made : (next ≡ Next (length (printed (planBy p)))) × (take (length (printed (planBy p))) out ≡ printed (planBy p))
-        × (length (printed (planBy p)) ≤ longestPrint)
-    print-made = (
-      ap (λ (o : Output). o .next) print-stands,
-      ap (λ (o : Output). take (length (printed (planBy p))) (o .bytes)) print-stands ∙ take-append-seam (printed (planBy p)) _,
-      print-short,
-    )
+    pub print-next : next ≡ Next (length (printed (planBy p)))
+    print-next = ap (λ (o : Output). o .next) print-stands
 
 -- ---- the answer handed over
 
--- what was found for tables of the plan's own is handed over as if the tables lent had been written
-module _ {p : ByValue} {answer : Answer} {pieces left : List ℕ} (a : Answers p answer pieces left) (lent : List ℕ) where
-  table-handed : whereFound (answer .outcome) pieces lent ≡ tableAfter (unnamed (planBy p)) lent
-  unfolding whereFound answerOf outcomeOf tableAfter tableBy
-  table-handed = rw (a .answer) (go (planned (unnamed (planBy p)) .result) refl)
+-- found for the front of a list, it is what is found for all of it
+module _ {p : ByValue} {answer : Answer} (table spare : List ℕ) {pieces left : List ℕ}
+    (a : Answers p answer (take (p .deliveries * p .engines) table) (take (p .engines) spare) pieces left) where
+  table-handed : pieces ++ drop (p .deliveries * p .engines) table ≡ tableAfter (unnamed (planBy p)) table
+  unfolding tableAfter tableBy overFront
+  table-handed = go (planned (unnamed (planBy p)) .result) refl
     where
-      go : (r : Result) → planned (unnamed (planBy p)) .result ≡ r → whereFound (outcomeOf r) pieces lent ≡ tableBy r lent
-      go (found tries table) e = ap (λ (new : List ℕ). overFront new lent) (own-table a e)
-      go (none tries) e = refl
-      go (stopped tries) e = refl
+      go : (r : Result) → planned (unnamed (planBy p)) .result ≡ r → pieces ++ drop (p .deliveries * p .engines) table ≡ tableBy r table
+      go (found tries new) e = rw (own-table a e, found-cells (a .usable) e)
+      go (none tries) e = rw (a .table, e) (take-append-drop (p .deliveries * p .engines) table)
+      go (stopped tries) e = rw (a .table, e) (take-append-drop (p .deliveries * p .engines) table)
 
-  spare-handed : whereFound (answer .outcome) left lent ≡ sparesAfter (unnamed (planBy p)) lent
-  unfolding whereFound answerOf outcomeOf sparesAfter sparesBy
-  spare-handed = rw (a .answer) (go (planned (unnamed (planBy p)) .result) refl)
+  spare-handed : left ++ drop (p .engines) spare ≡ sparesAfter (unnamed (planBy p)) spare
+  unfolding sparesAfter sparesBy overFront
+  spare-handed = go (planned (unnamed (planBy p)) .result) refl
     where
       plan : Plan
       plan = unnamed (planBy p)
 
-      go : (r : Result) → planned plan .result ≡ r → whereFound (outcomeOf r) left lent ≡ sparesBy plan (planned plan .minutes) r lent
-      go (found tries table) e = ap (λ (new : List ℕ). overFront new lent) (own-spare a e)
-      go (none tries) e = refl
-      go (stopped tries) e = refl
+      go : (r : Result) → planned plan .result ≡ r → left ++ drop (p .engines) spare ≡ sparesBy plan (planned plan .minutes) r spare
+      go (found tries table) e = rw (own-spare a e, length-spares plan (planned plan .minutes) table, plan-counts (a .usable) .0)
+      go (none tries) e = rw (a .spare, e) (take-append-drop (p .engines) spare)
+      go (stopped tries) e = rw (a .spare, e) (take-append-drop (p .engines) spare)
 
--- a print that fits
-pub handed : {p : ByValue} {answer : Answer} {pieces left : List ℕ} → Answers p answer pieces left → (lent : Lent) {n : ℕ} {table spare out : List ℕ}
-    → length (printed (planBy p)) ≤ length (lent .output) → n ≡ length (printed (planBy p)) → table ≡ whereFound (answer .outcome) pieces (lent .table)
-    → spare ≡ whereFound (answer .outcome) left (lent .spare) → out ≡ atFront (printed (planBy p)) (lent .output)
-    → HandedOver (planBy p) (Printed answer n) lent (lentLists table spare out)
-unfolding withSpace _>>=_ require answerBy onExit overFront
-handed {p} a lent room size t s o =
-    let fits = le-leb (length (printed (planBy p))) (length (lent .output)) room in
-    record {
-      result = rw (fits, size, a .answer);
-      table = rw fits (t ∙ table-handed a (lent .table));
-      spare = rw fits (s ∙ spare-handed a (lent .spare));
-      output = rw fits o;
-    }
-
--- 9: a print that does not fit
-pub not-handed : (f : FilePlan) (lent : Lent) {out : List ℕ} → length (lent .output) < length (printed f) → out ≡ lent .output
-    → HandedOver f (Refused (record { fault = Space; place = 0 })) lent (lentLists (lent .table) (lent .spare) out)
-unfolding withSpace _>>=_ require fault answerBy onExit
-not-handed f lent over kept =
-    let long = lt-leb (length (printed f)) (length (lent .output)) over in
-    record { result = rw long; table = rw long; spare = rw long; output = rw long kept }
-
--- numbers that found alone writes: a list that they are no longer than has room for all of them
-pub found-numbers : (o : Outcome) (new lent : List ℕ) {after : List ℕ} → o ≡ Found → length new ≤ length lent
-    → after ≡ overFront (take (length lent) new) lent → after ≡ whereFound o new lent
-unfolding whereFound
-found-numbers o new lent e room copied = rw e (copied ∙ rw (take-all (length lent) new room))
-
-pub kept-numbers : (o : Outcome) (new lent : List ℕ) → (o ≡ Found → ⊥) → lent ≡ whereFound o new lent
-unfolding whereFound
-kept-numbers Found new lent n = absurd (n refl)
-kept-numbers None new lent n = refl
-kept-numbers Stopped new lent n = refl
+  -- with its print, which fits
+  pub handed : {n : ℕ} {next : Wrote} {lent out : List ℕ} → longestPrint ≤ length lent
+      → PutLines (printLines answer (deliveryList p) (engineList p) pieces) (output (Next 0) lent) (output next out) → next ≡ Next n
+      → HandedOver (planBy p) (Printed answer n) (lentLists table spare lent)
+      (lentLists (pieces ++ drop (p .deliveries * p .engines) table) (left ++ drop (p .engines) spare) out)
+  unfolding withSpace _>>=_ require answerBy onExit overFront
+  handed {n} {lent = lent} room put e =
+      let next-is = print-next a room put in
+      let size : n ≡ length (printed (planBy p)) = cc in
+      let fits = le-leb (length (printed (planBy p))) (length lent) (omega (arith, print-short a)) in
+      record {
+        result = rw (fits, size, a .answer);
+        table = rw fits table-handed;
+        spare = rw fits spare-handed;
+        output = rw fits (ap (λ (o : Output). o .bytes) (print-stands a room put));
+      }
