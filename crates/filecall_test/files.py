@@ -296,7 +296,11 @@ def full():
         letters = [chr(0x3A + n) if "%c" in name else n for n in range(64)]
         engines = [f"engine,{name % ('E', letters[i])},534,534" for i in range(12)]
         deliveries = [f"delivery,{name % ('D', letters[p])},100,2" for p in range(64)]
-        case(title, lines("plan,fixed,60,0", *deliveries, *engines), ("found", 60, 0))
+        file = lines("plan,fixed,60,0", *deliveries, *engines)
+        length = len(call(file, 768, 12, 6715)[3])
+        case(title, file, ("found", 60, 0))
+        case(title + ", an output a byte short", file, (9, 0), output=length - 1)
+        case(title + ", an output that just fits", file, ("found", 60, 0), output=length)
 
 
 def expected(title, file, told, table, spare, output, size, pad):
