@@ -1,4 +1,4 @@
--- A plan by value answered: planned on tables of its own, and handed over where its print fits into the output lent.
+-- A plan by value answered: planned on the fronts of the tables lent, which are the plan's own lengths, and printed where the print fits into the output.
 -- Assumes nothing.
 use mathlib.Core.Path.{_≡_}
 use mathlib.Core.List.{List}
@@ -16,7 +16,7 @@ use Rattle.planfile.specs.Reading.{Read, accepted, require, _>>=_}
 use Rattle.planreader.specs.declared.FilePlan.{FilePlan as ByValue}
 use Rattle.planreader.specs.Plans.{planBy, UsablePlan}
 
--- the answer to a plan, with what is left in tables of the plan's own lengths that were lent for it
+-- the answer to a plan, with what is left in tables of the plan's own lengths, which held something before
 pub record Answers (p : ByValue) (answer′ : Answer) (ownTable ownSpare pieces spares : List ℕ) : Type 0 where
   pub usable : UsablePlan p
   pub answer : answer′ ≡ answerOf (planned (unnamed (planBy p)))

@@ -177,15 +177,6 @@ module _ {p : ByValue} {answer : Answer} {ownTable ownSpare pieces left : List �
       go (none tries) e = rw (a .table, e) (a .cells)
       go (stopped tries) e = rw (a .table, e) (a .cells)
 
-  pub own-count : length left ≡ p .engines
-  unfolding sparesAfter sparesBy spares
-  own-count = go (planned plan .result) refl
-    where
-      go : (r : Result) → planned plan .result ≡ r → length left ≡ p .engines
-      go (found tries table) e = ap length (own-spare e) ∙ length-listed (length (plan .engines)) _ ∙ plan-counts (a .usable) .0
-      go (none tries) e = rw (a .spare, e) (a .count)
-      go (stopped tries) e = rw (a .spare, e) (a .count)
-
   -- the lines by names and pieces are those of the plan's print
   lines-are : printLines answer (deliveryList p) (engineList p) pieces
       ≡ answerLines (planned plan .minutes) (planned plan .result) (linesOf (planBy p) (planned plan .result))
