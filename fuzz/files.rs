@@ -163,7 +163,7 @@ fn damage_records(random: &mut Random, records: &mut Vec<Record>) {
         0 => { let copy = records[at].clone(); insert(random, records, copy) }
         1 => records.swap(at, other),
         2 | 3 => { let count = random.pick(&[12, 13, 13, 14]); crowd(random, records, "engine", count) }
-        4 | 5 => { let count = random.pick(&[64, 65, 65, 66]); crowd(random, records, "delivery", count) }
+        4 | 5 => { let count = random.pick(&[37, 37, 38, 38, 39, 64]); crowd(random, records, "delivery", count) }
         6..=8 => damage_name(random, records),
         9..=11 => damage_number(random, records),
         12 => damage_word(random, records),
@@ -250,8 +250,8 @@ fn lengths(random: &mut Random, answer: Answer) -> Lengths {
         10..=12 => lengths.output = length.saturating_sub(1),
         13 => lengths.output = random.place(length + 1),
         14 => lengths.output = PRINT_BYTES,
-        15 => lengths.table = random.pick(&[0, 1, 12, 64, 767, 769, 780]),
-        16 => lengths.spare = random.pick(&[0, 1, 11, 13, 64, 768]),
+        15 => lengths.table = random.pick(&[0, 1, 12, 37, 443, 445, 456, 768]),
+        16 => lengths.spare = random.pick(&[0, 1, 11, 13, 37, 444]),
         _ => {}
     }
     lengths

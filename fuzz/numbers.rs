@@ -68,7 +68,7 @@ impl Call {
             self.watts.resize(count, 60);
             self.fuels.resize(count, 60);
         } else {
-            let count = random.pick(&[0, 1, 64, 65, 65, 66, 300]);
+            let count = random.pick(&[0, 1, 37, 38, 38, 39, 64, 300]);
             self.energies.resize(count, 1);
             self.limits.resize(count, 1);
         }
@@ -79,9 +79,9 @@ impl Call {
 
     fn damage_lent(&mut self, random: &mut Random) {
         if random.percent(50) {
-            self.table = random.pick(&[0, 1, self.table.saturating_sub(1), self.table + 1, self.table + self.spare, 768]);
+            self.table = random.pick(&[0, 1, self.table.saturating_sub(1), self.table + 1, self.table + self.spare, 444, 768]);
         } else {
-            self.spare = random.pick(&[0, self.spare.saturating_sub(1), self.spare + 1, 12, 13, 768]);
+            self.spare = random.pick(&[0, self.spare.saturating_sub(1), self.spare + 1, 12, 13, 444]);
         }
     }
 

@@ -1,6 +1,7 @@
 // Plans that are accepted, mostly tight ones.
 
 use super::random::Random;
+use super::reference::DELIVERIES;
 
 /// A plan by its engines' capacities and its deliveries as energy and limit.
 pub struct Shape { pub shortest: bool, pub minutes: u64, pub allowance: u64, pub capacities: Vec<u64>, pub demands: Vec<(u64, u64)> }
@@ -27,7 +28,7 @@ pub fn heading(random: &mut Random) -> (bool, u64, u64) {
 pub fn shape(random: &mut Random) -> Shape {
     let (shortest, minutes, allowance) = heading(random);
     let engines = random.between(1, 12);
-    let deliveries = if random.percent(70) { random.below(9) } else { random.between(0, 64) };
+    let deliveries = if random.percent(70) { random.below(9) } else { random.between(0, DELIVERIES as u64) };
     let capacities = capacities(random, engines);
     let demands = match random.below(3) {
         0 => tight_demands(random, &capacities),
@@ -67,7 +68,7 @@ fn demands(random: &mut Random, count: u64, total: u64) -> Vec<(u64, u64)> {
     }).collect()
 }
 
-/// Energies cut out of the capacities themselves: a tight plan that serves, and that a search seldom finds at once.
+/// Energies cut out of the capacities themselves, as many as a plan may have: a tight plan that serves, and that a search seldom finds at once.
 fn tight_demands(random: &mut Random, capacities: &[u64]) -> Vec<(u64, u64)> {
     let mut demands: Vec<(u64, u64)> = Vec::new();
     for capacity in capacities {
@@ -85,5 +86,6 @@ fn tight_demands(random: &mut Random, capacities: &[u64]) -> Vec<(u64, u64)> {
         }
     }
     random.shuffle(&mut demands);
+    demands.truncate(DELIVERIES);
     demands
 }

@@ -1,4 +1,4 @@
-/* Document 01's example planned by file and on numbers, a lookup of spare, and calls that are turned down. */
+/* Document 01's example planned by file and on numbers, as many deliveries as there may be, a lookup of spare, and calls turned down. */
 #include <stdio.h>
 #include "fothwen.h"
 
@@ -30,7 +30,7 @@ static void by_file(void) {
         "delivery,D2,3000,2\r\n";
     const uint8_t *bytes = (const uint8_t *)file;
     const size_t size = sizeof file - 1;
-    uint64_t table[FOTHWEN_FILE_TABLE] = {0}, spare[FOTHWEN_FILE_SPARE + 1] = {0};
+    uint64_t table[FOTHWEN_FILE_TABLE + 1] = {0}, spare[FOTHWEN_FILE_SPARE + 1] = {0};
     uint8_t output[FOTHWEN_LONGEST_PRINT];
     fothwen_plan_reply reply;
 
@@ -38,7 +38,8 @@ static void by_file(void) {
     show("by file", reply);
     fwrite(output, 1, reply.length, stdout);
     show("no bytes", fothwen_plan_file(NULL, 0, table, FOTHWEN_FILE_TABLE, spare, FOTHWEN_FILE_SPARE, output, sizeof output));
-    show("a table of 767", fothwen_plan_file(bytes, size, table, 767, spare, FOTHWEN_FILE_SPARE, output, sizeof output));
+    show("a table of 443", fothwen_plan_file(bytes, size, table, 443, spare, FOTHWEN_FILE_SPARE, output, sizeof output));
+    show("a table of 445", fothwen_plan_file(bytes, size, table, 445, spare, FOTHWEN_FILE_SPARE, output, sizeof output));
     show("a spare list of 13", fothwen_plan_file(bytes, size, table, FOTHWEN_FILE_TABLE, spare, 13, output, sizeof output));
     show("no output", fothwen_plan_file(bytes, size, table, FOTHWEN_FILE_TABLE, spare, FOTHWEN_FILE_SPARE, NULL, 0));
 }
@@ -59,6 +60,27 @@ static void on_numbers(void) {
     show("a fuel missing", fothwen_allocate(FOTHWEN_FIXED, 60, 100, watts, 2, fuels, 1, energies, 2, limits, 2, table, 4, spare, 2));
 }
 
+/* An engine and deliveries of 1 Wh, on numbers and in a file: 37 are planned, and one more is refused. */
+static void crowds(void) {
+    static const uint64_t capacity[] = {40};
+    uint64_t ones[38], table[FOTHWEN_FILE_TABLE] = {0}, spare[FOTHWEN_FILE_SPARE] = {0};
+    uint8_t output[FOTHWEN_LONGEST_PRINT];
+    char file[2048];
+    size_t count, size;
+
+    for (count = 0; count < 38; count++)
+        ones[count] = 1;
+    size = (size_t)sprintf(file, "plan,fixed,60,100\r\nengine,E1,40,40\r\n");
+    for (count = 1; count <= 38; count++) {
+        size += (size_t)sprintf(file + size, "delivery,D%d,1,1\r\n", (int)count);
+        if (count < 37)
+            continue;
+        printf("%d deliveries\n", (int)count);
+        show("on numbers", fothwen_allocate(FOTHWEN_FIXED, 60, 100, capacity, 1, capacity, 1, ones, count, ones, count, table, count, spare, 1));
+        show("by file", fothwen_plan_file((const uint8_t *)file, size, table, FOTHWEN_FILE_TABLE, spare, FOTHWEN_FILE_SPARE, output, sizeof output));
+    }
+}
+
 /* In 75 minutes E1 gives all its 3750 Wh, and E2 has 2000 of its 6250 to spare. */
 static void lookups(void) {
     uint64_t table[4] = {0}, spare[2] = {0};
@@ -74,6 +96,7 @@ static void lookups(void) {
 int main(void) {
     by_file();
     on_numbers();
+    crowds();
     lookups();
     return 0;
 }

@@ -22,7 +22,7 @@ enum { FOTHWEN_FIXED = 0, FOTHWEN_SHORTEST = 1 };
 enum { FOTHWEN_FOUND = 0, FOTHWEN_NONE = 1, FOTHWEN_STOPPED = 2, FOTHWEN_REFUSED = 3 };
 
 /* What a call with a file is lent, in numbers, and bytes that hold every print. */
-enum { FOTHWEN_FILE_TABLE = 768, FOTHWEN_FILE_SPARE = 12, FOTHWEN_LONGEST_PRINT = 6715 };
+enum { FOTHWEN_FILE_TABLE = 444, FOTHWEN_FILE_SPARE = 12, FOTHWEN_LONGEST_PRINT = 4339 };
 
 /* What planning comes to. The numbers that do not belong to the word are 0. */
 typedef struct {

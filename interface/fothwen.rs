@@ -14,6 +14,8 @@
 //! assert_eq!(table, [3000, 2000, 0, 3000]);
 //! assert_eq!(fothwen::spare_lookup(&spare, 1), Ok(None));
 //! assert_eq!(fothwen::allocate(&fothwen::Plan { mode: 2, ..plan }, &mut table, &mut spare), Err(fothwen::Refusal { number: 6, place: 1 }));
+//! let crowd = fothwen::Plan { energies: &[1; 38], limits: &[1; 38], ..plan };
+//! assert_eq!(fothwen::allocate(&crowd, &mut [0; 76], &mut spare), Err(fothwen::Refusal { number: 7, place: 0 }));
 //! ```
 
 /// MODE as a number. Any other is refused by 6 at place 1.
@@ -21,9 +23,9 @@ pub const FIXED: u64 = 0;
 pub const SHORTEST: u64 = 1;
 
 /// What a call with a file is lent, in numbers, and bytes that hold every print.
-pub const FILE_TABLE: usize = 768;
+pub const FILE_TABLE: usize = 444;
 pub const FILE_SPARE: usize = 12;
-pub const LONGEST_PRINT: usize = 6_715;
+pub const LONGEST_PRINT: usize = 4_339;
 
 #[derive(Clone, Copy, PartialEq, Eq, Debug)]
 pub enum Outcome {

@@ -1,9 +1,10 @@
-// Document 01 in plain Rust, written from the page alone: what the call with a file, the allocation on numbers and the spare lookup answer,
+// Document 01 and the changes of document 02 in plain Rust, written from the pages alone: what the call with a file, the allocation on numbers and the spare lookup answer,
 // and what the program prints. The random inputs compare the proved planner with it, and the benchmark times both.
 
 const FILE_BYTES: usize = 32_768;
 const ENGINES: usize = 12;
-const DELIVERIES: usize = 64;
+/// K7: "a 38th is refused by 7".
+pub const DELIVERIES: usize = 37;
 pub const TABLE_NUMBERS: usize = ENGINES * DELIVERIES;
 pub const SPARE_NUMBERS: usize = ENGINES;
 /// No print is longer: an answer's line, and for every piece a line with two names of 16 quotes each.

@@ -104,7 +104,7 @@ def answer(mode, minutes, allowance, watts, fuels, energies, limits, table, spar
         return "refused", 3, 0, None, None
     if not watts:
         return "refused", 8, 0, None, None
-    if len(watts) > 12 or len(energies) > 64:
+    if len(watts) > 12 or len(energies) > 37:
         return "refused", 7, 0, None, None
     if table != len(watts) * len(energies) or spare != len(watts):
         return "refused", 9, 0, None, None
@@ -199,11 +199,13 @@ REFUSALS = [
     ("8, no engine", 0, 60, 9, [], [], [], []),
     ("8, no engine but a delivery", 0, 60, 9, [], [], [5], [1]),
     ("7, a 13th engine", 0, 60, 9, [1] * 13, [1] * 13, [], []),
-    ("7, a 65th delivery", 0, 60, 9, [1], [1], [1] * 65, [1] * 65),
+    ("7, a 38th delivery", 0, 60, 9, [1], [1], [1] * 38, [1] * 38),
+    ("7, 64 deliveries", 0, 60, 9, [1], [1], [1] * 64, [1] * 64),
     ("9, a table of no number", 0, 60, 9, [1], [1], [5], [1], 0),
     ("9, a table a number short", 0, 60, 9, [1, 1], [1, 1], [5, 5], [1, 1], 3),
     ("9, a table a number long", 0, 60, 9, [1, 1], [1, 1], [5, 5], [1, 1], 5),
-    ("9, a table of 768 numbers for one", 0, 60, 9, [1], [1], [5], [1], 768),
+    ("9, a table of 444 numbers for one", 0, 60, 9, [1], [1], [5], [1], 444),
+    ("9, a table of 768 numbers for 37 on 12", 0, 60, 9, [1] * 12, [1] * 12, [1] * 37, [1] * 37, 768),
     ("9, a spare list a number long", 0, 60, 9, [1], [1], [5], [1], 1, 2),
     ("9, a spare list a number short", 0, 60, 9, [1, 1], [1, 1], [5], [1], 2, 1),
     ("6 at 1, minutes 0", 0, 0, 9, [1], [1], [], []),
@@ -222,7 +224,7 @@ REFUSALS = [
     ("6 at 5, limit 13 of delivery 2", 0, 60, 9, [1, 1], [1, 1], [1, 2], [1, 13]),
     ("6 at 5, limit 0 of delivery 2", 0, 60, 9, [1, 1], [1, 1], [1, 2], [1, 0]),
     ("6 at 3, the widest limit", 0, 60, 9, [1], [1], [1], [WIDE]),
-    ("6 at 77, delivery 64 behind 12 engines", 0, 60, 9, [1] * 12, [1] * 12, [1] * 64, [1] * 63 + [0]),
+    ("6 at 50, delivery 37 behind 12 engines", 0, 60, 9, [1] * 12, [1] * 12, [1] * 37, [1] * 36 + [0]),
 ]
 # two faults at once: the order 3, 8, 7, 9, 6, and for 6 the places from the front
 ORDER = [
@@ -230,13 +232,13 @@ ORDER = [
     ("3 before 7", 0, 60, 9, [1] * 13, [1] * 12, [], []),
     ("3 before 9", 0, 60, 9, [1, 2], [1], [], [], 5),
     ("3 before 6", 0, 0, 9, [1], [1], [5], []),
-    ("8 before 7", 0, 60, 9, [], [], [1] * 65, [1] * 65),
+    ("8 before 7", 0, 60, 9, [], [], [1] * 38, [1] * 38),
     ("8 before 9", 0, 60, 9, [], [], [5], [1], 1),
     ("8 before 6", 0, 0, 9, [], [], [0], [1]),
     ("7 before 9", 0, 60, 9, [1] * 13, [1] * 13, [5], [1], 12, 12),
-    ("7 before 9, deliveries", 0, 60, 9, [1], [1], [5] * 65, [1] * 65, 64),
+    ("7 before 9, deliveries", 0, 60, 9, [1], [1], [5] * 38, [1] * 38, 37),
     ("7 before 6", 0, 0, 9, [1] * 13, [1] * 13, [], []),
-    ("7 before 6, deliveries", 0, 60, 9, [1], [1], [0] * 65, [1] * 65),
+    ("7 before 6, deliveries", 0, 60, 9, [1], [1], [0] * 38, [1] * 38),
     ("9 before 6, the table", 0, 0, 9, [1], [1], [5], [1], 2),
     ("9 before 6, the spare list", 0, 60, 9, [5000001], [1], [], [], 0, 12),
     ("6 at 1 before 2", 0, 10081, 9, [5000001], [1], [], []),
@@ -286,11 +288,11 @@ def calls():
     for mode, word in [(0, "fixed"), (1, "shortest")]:
         call(f"the largest numbers as {word}, 10 deliveries", mode, 10080, MOST, [5000000] * 12, [MOST] * 12, [MOST] * 10, [12] * 10)
         call(f"the largest numbers as {word}, more than the capacity", mode, 10080, MOST, [5000000] * 12, [MOST] * 12, [MOST] * 12, [12] * 12)
-    plan("64 deliveries to lay, stopped after 2000 tries", [1000] * 12, [(187, 1)] * 64, 2000)
+    plan("37 deliveries to lay, stopped after 2000 tries", [1000] * 12, [(270, 1)] * 37, 2000)
     plan("13 on 12, stopped after 5000 tries", [1000] * 12, [(900, 1)] * 13, 5000)
     plan("7 cut on 12, stopped after 5000 tries", [1000] * 12, [(1600, 2)] * 7, 5000)
-    plan("64 deliveries filled straight", [100] * 12, [(18, 2)] * 64, 0)
-    plan("64 deliveries as shortest, stopped at a shorter time", [100] * 12, [(18, 1)] * 64, 500, 1, 10080)
+    plan("37 deliveries filled straight", [100] * 12, [(32, 2)] * 37, 0)
+    plan("37 deliveries as shortest, stopped at a shorter time", [100] * 12, [(32, 1)] * 37, 500, 1, 10080)
     random_calls()
 
 

@@ -15,6 +15,10 @@ import examples  # noqa: E402
 import plans  # noqa: E402
 
 MOST = 10**9
+DELIVERIES = 37
+TABLE, SPARE = 12 * DELIVERIES, 12
+# no print is longer: a line, and one of 88 bytes for each engine and delivery
+PRINT = 27 + (12 + DELIVERIES) * 88
 
 
 class Refused(Exception):
@@ -60,7 +64,7 @@ def read(file):
         elif fields[0] == b"engine":
             item(fields, engines, 12, [(0, 5_000_000), (0, MOST)], record)
         else:
-            item(fields, deliveries, 64, [(1, MOST), (1, 12)], record)
+            item(fields, deliveries, DELIVERIES, [(1, MOST), (1, 12)], record)
     if not engines:
         raise Refused(8, 0)
     return head, engines, deliveries
@@ -81,7 +85,7 @@ def printed(word, minutes, tries, engines, deliveries, table):
 def call(file, table, spare, output):
     """the word, its two numbers, the print, and what is written to the table and the spare list"""
     head, engines, deliveries = read(file)
-    if table != 768 or spare != 12:
+    if table != TABLE or spare != SPARE:
         raise Refused(9, 0)
     lists = [[numbers[k] for numbers in items.values()] for items in (engines, deliveries) for k in (0, 1)]
     word, minutes, tries, cells, left = plans.answer(*head, *lists, len(engines) * len(deliveries), len(engines))
@@ -94,7 +98,7 @@ def call(file, table, spare, output):
 CASES = []
 
 
-def case(title, file, told, table=768, spare=12, output=6715, size=None, pad=b"."):
+def case(title, file, told, table=TABLE, spare=SPARE, output=PRINT, size=None, pad=b"."):
     """a case; told is what document 01 says: number and record of a refusal, or the word and its numbers"""
     CASES.append((title, file, told, table, spare, output, len(file) if size is None else size, pad))
 
@@ -119,7 +123,7 @@ PLAN, ENGINE = "plan,fixed,60,9", "engine,E1,5,5"
 EXAMPLE = plan_file([3000, 5000], [(5000, 2), (3000, 2)], 100)
 PRINTED = lines("found,60,2,3", "piece,D1,E1,3000", "piece,D1,E2,2000", "piece,D2,E2,3000")
 ENGINES12, ENGINES13 = numbered("engine", 1, 12, "5,5"), numbered("engine", 1, 13, "5,5")
-DELIVERIES64, DELIVERIES65 = numbered("delivery", 1, 64, "1,1"), numbered("delivery", 1, 65, "1,1")
+DELIVERIES37, DELIVERIES38 = numbered("delivery", 1, 37, "1,1"), numbered("delivery", 1, 38, "1,1")
 NAME17 = "ABCDEFGHIJKLMNOPQ"
 
 # document 01's table "Turned down", each row with its own example
@@ -176,7 +180,10 @@ TURNED_DOWN = [
     ("unknown mode", lines("plan,fastest,60,9"), (6, 1)),
     ("no mode", lines("plan,,60,9"), (6, 1)),
     ("mode with a capital", lines("plan,Fixed,60,9"), (6, 1)),
-    ("65 delivery records", lines(PLAN, *DELIVERIES65, ENGINE), (7, 66)),
+    ("38 delivery records", lines(PLAN, *DELIVERIES38, ENGINE), (7, 39)),
+    ("38 delivery records behind an engine", lines(PLAN, ENGINE, *DELIVERIES38), (7, 40)),
+    ("64 delivery records", lines(PLAN, *numbered("delivery", 1, 64, "1,1"), ENGINE), (7, 39)),
+    ("65 delivery records", lines(PLAN, *numbered("delivery", 1, 65, "1,1"), ENGINE), (7, 39)),
     ("a delivery, no engine", lines(PLAN, "delivery,D1,5,1"), (8, 0)),
     ("`plan,fixed,60,9` alone, without CR LF", PLAN.encode(), (8, 0)),
 ]
@@ -204,7 +211,7 @@ ORDER = [
     ("4 where an engine would be 7", lines(PLAN, *ENGINES12, "pump,N1,x,5"), (4, 14)),
     ("7 before 5", lines(PLAN, *ENGINES12, "engine,N1,5,5"), (7, 14)),
     ("7 before 6", lines(PLAN, *ENGINES12, "engine,N13,x,5"), (7, 14)),
-    ("7 before 5 and 6, deliveries", lines(PLAN, *DELIVERIES64, "delivery,N1,0,0"), (7, 66)),
+    ("7 before 5 and 6, deliveries", lines(PLAN, *DELIVERIES37, "delivery,N1,0,0"), (7, 39)),
     ("5 before 6, from the left", lines(PLAN, "engine,,x,5"), (5, 2)),
     ("5 before 6, from the left, a delivery", lines(PLAN, ENGINE, "delivery,,5,13"), (5, 3)),
     ("first record, 6 before a later 2", lines(PLAN, "engine,E1,x,5", 'engine,"E1,5,5'), (6, 2)),
@@ -253,23 +260,24 @@ def sizes():
 
 def lent():
     found, none = ("found", 60, 2), plan_file([1], [(2, 1)], 9)
-    for table, spare in [(767, 12), (769, 12), (0, 12), (768, 11), (768, 13), (768, 0), (4, 2), (800, 20)]:
+    for table, spare in [(443, 12), (445, 12), (768, 12), (0, 12), (444, 11), (444, 13), (444, 0), (4, 2), (800, 20)]:
         case(f"turned down by 9, lent {table} and {spare} numbers", EXAMPLE, (9, 0), table, spare)
-    case("turned down by 9, a table of 767 for an answer none", none, (9, 0), 767)
+    case("turned down by 9, a table of 443 for an answer none", none, (9, 0), 443)
     case("turned down by 9, an output a byte short", EXAMPLE, (9, 0), output=67)
     case("an output that just fits", EXAMPLE, found, output=68)
     case("an output a byte longer", EXAMPLE, found, output=69)
     case("turned down by 9, no output", EXAMPLE, (9, 0), output=0)
     case("turned down by 9, an output a byte short of none", none, (9, 0), output=12)
     case("an output that just fits none", none, ("none", 60, 0), output=13)
-    case("order, 8 before 9, a table of 767", lines(PLAN), (8, 0), 767)
+    case("order, 8 before 9, a table of 443", lines(PLAN), (8, 0), 443)
     case("order, 8 before 9, no output", lines(PLAN), (8, 0), output=0)
     case("order, 6 before 9", lines("plan,fixed,0,9"), (6, 1), 0, 0, 0)
     case("order, 1 before 9", b"", (1, 0), 0, 0, 0)
 
 
 def accepted():
-    assert call(EXAMPLE, 768, 12, 6715)[3] == PRINTED
+    assert (TABLE, PRINT) == (444, 4339)
+    assert call(EXAMPLE, TABLE, SPARE, PRINT)[3] == PRINTED
     for title, capacities, deliveries, allowance, (word, tries) in plans.PLANS_TO_TRY:
         case("plans to try, " + title, plan_file(capacities, deliveries, allowance), (word, 60, tries))
     case("plans to try, no deliveries as shortest", plan_file([3000], [], 100, "shortest"), ("found", 1, 0))
@@ -284,20 +292,21 @@ def accepted():
     case("59 watts for 1 minute", lines("plan,fixed,1,9", "engine,E,59,1000", "delivery,D,1,1"), ("none", 1, 0))
     case("60 watts for 1 minute", lines("plan,fixed,1,9", "engine,E,60,1000", "delivery,D,1,1"), ("found", 1, 1))
     case("fuel below watts", lines(PLAN, "engine,E,1000,4", "delivery,D,5,1"), ("none", 60, 0))
+    case("37 deliveries of limit 1, a try for each", lines("plan,fixed,60,37", "engine,E1,37,37", *DELIVERIES37), ("found", 60, 37))
     for title, file, told in QUOTED:
         case("quotes, " + title, file, told)
     full()
 
 
 def full():
-    """12 engines and 64 deliveries, 75 pieces: names of 14 quotes and two letters make for a long print"""
+    """12 engines and 37 deliveries, 48 pieces: names of 14 quotes and two letters make for a long print"""
     quotes = '"' * 28
     for title, name in [("full, names without quotes", "%s%02d"), ("full, names in quotes", f'"{quotes}%s%c"')]:
-        letters = [chr(0x3A + n) if "%c" in name else n for n in range(64)]
-        engines = [f"engine,{name % ('E', letters[i])},534,534" for i in range(12)]
-        deliveries = [f"delivery,{name % ('D', letters[p])},100,2" for p in range(64)]
+        letters = [chr(0x3A + n) if "%c" in name else n for n in range(37)]
+        engines = [f"engine,{name % ('E', letters[i])},309,309" for i in range(12)]
+        deliveries = [f"delivery,{name % ('D', letters[p])},100,2" for p in range(37)]
         file = lines("plan,fixed,60,0", *deliveries, *engines)
-        length = len(call(file, 768, 12, 6715)[3])
+        length = len(call(file, TABLE, SPARE, PRINT)[3])
         case(title, file, ("found", 60, 0))
         case(title + ", an output a byte short", file, (9, 0), output=length - 1)
         case(title + ", an output that just fits", file, ("found", 60, 0), output=length)

@@ -16,7 +16,7 @@ use Rattle.planfile.specs.FilePlan.{FilePlan, unnamed}
 use Rattle.planfile.specs.Print.{printOf, refusalPrint}
 use Rattle.planfile.specs.Reading.{Read, refused, accepted, require, readFile, _>>=_}
 
--- "A call with a file is lent exactly 768 and 12 numbers", and an output
+-- "A call with a file is lent exactly" 444 (document 02, K7) "and 12 numbers", and an output
 pub record FileCall : Type 0 where
   pub file : List ℕ
   pub table : List ℕ

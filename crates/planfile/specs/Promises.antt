@@ -44,8 +44,8 @@ namedLine f p i text = lineOf (nameAt (deliveryNames f) p) (nameAt (engineNames 
 
 -- ---- a call that is accepted, and where a refusal may be
 
--- The bytes hold a plan; "A call with a file is lent exactly 768 and 12 numbers"; and the plan's output is not "longer than the lent
--- space".
+-- The bytes hold a plan; "A call with a file is lent exactly" 444 (document 02, K7) "and 12 numbers"; and the plan's output is not "longer
+-- than the lent space".
 pub record FileAccepted (call : FileCall) : Type 0 where
   pub plan : FilePlan
   pub held : Holds (call .file) plan

@@ -138,7 +138,7 @@ readEngine f r x = do
   v ← readItem mostEngines 0 mostWatts 0 mostFuel (engineNames f) r x
   accepted (withEngine f (engineOf (x .second) (v .first) (v .second)))
 
--- a delivery, and 7 for a "65th delivery"
+-- a delivery, and 7 for a 38th (document 02, K7)
 unfoldable pub readDelivery : FilePlan → (r : ℕ) → FourFields → Read FilePlan
 readDelivery f r x = do
   v ← readItem mostDeliveries 1 mostEnergy 1 mostLimit (deliveryNames f) r x

@@ -52,8 +52,8 @@ fn print_of(file: &[u8], output: &mut [u8]) -> usize
     ensures print { λ r. ⌜ ProgramPrints (now (file .entry)) (take r (now (output .exit))) ⌝ }
     ensures within { λ r. ⌜ r ≤ length (now (output .exit)) ⌝ }
 {
-    // MOST_CELLS, written out as document 01 has it
-    let mut table = [0u64; 768];
+    // MOST_CELLS, written out as the documents do
+    let mut table = [0u64; 444];
     let mut spare = [0u64; MOST_ENGINES];
     let answer = filecall::plan_file(file, &mut table, &mut spare, &mut *output);
     match answer {

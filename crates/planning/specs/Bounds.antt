@@ -1,4 +1,4 @@
--- The counts and ranges of document 01, each under one name.
+-- The counts and ranges of document 01, each under one name, as document 02 changes them.
 -- Assumes nothing.
 use Prim.Native.Nat.{ℕ, _*_}
 
@@ -6,11 +6,11 @@ use Prim.Native.Nat.{ℕ, _*_}
 abbrev pub mostEngines : ℕ
 mostEngines = 12
 
--- "deliveries 0 to 64"
+-- document 02, K7: "Make that the limit: a 38th is refused by 7"
 abbrev pub mostDeliveries : ℕ
-mostDeliveries = 64
+mostDeliveries = 37
 
--- "a zeroed table of 768 numbers": a cell for every delivery and engine that a plan may have
+-- "the length of the piece table lent with a file .. shrinks to 444 numbers": a cell for every delivery and engine that a plan may have
 abbrev pub mostCells : ℕ
 mostCells = mostDeliveries * mostEngines
 

@@ -24,7 +24,7 @@ faultNumber Kind = 4
 faultNumber Name = 5
 -- "MODE or a number against its form or range"
 faultNumber Value = 6
--- "a 13th engine or 65th delivery"
+-- "a 13th engine", or a 38th delivery (document 02, K7)
 faultNumber Count = 7
 -- "no engine"
 faultNumber NoEngine = 8

@@ -5,10 +5,10 @@ ghost use lib.ListN.{length, take};
 ghost use Rattle.planning.specs.Refusals.{faultNumber};
 ghost use Rattle.planning.specs.Tables.{overFront};
 
-// The counts and ranges of document 01 under the names that specs/Bounds gives them.
+// The counts and ranges of documents 01 and 02 under the names that specs/Bounds gives them.
 pub const MOST_ENGINES: usize = 12;
 
-pub const MOST_DELIVERIES: usize = 64;
+pub const MOST_DELIVERIES: usize = 37;
 
 pub const MOST_CELLS: usize = MOST_DELIVERIES * MOST_ENGINES;
 

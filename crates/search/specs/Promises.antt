@@ -28,7 +28,7 @@ written (stopped tries) lent = lent
 abbrev pub AllWithin : (low high : ℕ) → List ℕ → Type 0
 AllWithin low high xs = (i : ℕ) → i < length xs → Within low high (at xs i)
 
--- The counts of a plan that can be searched: "Engines number 1 to 12, deliveries 0 to 64", with a limit for each energy, "a piece table of
+-- The counts of a plan that can be searched: "Engines number 1 to 12", deliveries 0 to 37, with a limit for each energy, "a piece table of
 -- deliveries × engines" and "TRIES, the allowance, is 0 to 1,000,000,000." (A list without engines can be searched, too.)
 pub record CountsInRange (engines energies limits allowance cells : ℕ) : Type 0 where
   pub engineCount : engines ≤ mostEngines

@@ -17,6 +17,6 @@ pub record Others (width set others : ℕ) : Type 0 where
 abbrev pub engineBits : ℕ
 engineBits = 16
 
--- a set of deliveries is a number of 64 bits
+-- a set of deliveries is a number of 64 bits, of which as many are used as a plan may have deliveries
 abbrev pub deliveryBits : ℕ
 deliveryBits = 64

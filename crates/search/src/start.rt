@@ -16,9 +16,6 @@ ghost use Rattle.search.specs.Promises.{InSearchRange};
 ghost use Rattle.search.specs.Sets.{has};
 ghost use Rattle.search.specs.Steps.{EndsIn};
 
-// The bits of a set of deliveries.
-const SET_BITS: usize = 64;
-
 // The sum of a list.
 fn total(list: &[u32]) -> u64
     requires { ⌜ length (now list) ≤ 2 ^ 32 ⌝ }
@@ -96,11 +93,7 @@ fn first_deliveries(n: usize) -> u64
     requires { ⌜ n ≤ mostDeliveries ⌝ }
     ensures { λ r. ⌜ ((p : ℕ) → has r p ≡ ltb p n) ⌝ }
 {
-    if n == SET_BITS {
-        18446744073709551615
-    } else {
-        (1u64 << n) - 1
-    }
+    (1u64 << n) - 1
 }
 
 // Step A, then the other steps from the first state.

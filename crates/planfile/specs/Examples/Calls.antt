@@ -13,9 +13,9 @@ use Rattle.planfile.specs.declared.FileAnswer.the-variants.{Printed, Ref
 use Rattle.planfile.specs.Examples.Evaluation.{CallExample, calledAll}
 use Rattle.planfile.specs.FileCall.{FileCall}
 
--- "A call with a file is lent exactly 768 and 12 numbers": written out, so that evaluation has numerals
+-- "A call with a file is lent exactly" 444 "and 12 numbers": written out, so that evaluation has numerals
 abbrev cells : ℕ
-cells = 768
+cells = 444
 
 abbrev engines : ℕ
 engines = 12
@@ -75,6 +75,7 @@ calls =
     -- 9: lent tables of the wrong length
     ∷ turnedDown Space (lent printedInput (cells - 1) engines 80)
     ∷ turnedDown Space (lent printedInput (cells + 1) engines 80)
+    ∷ turnedDown Space (lent printedInput 768 engines 80)
     ∷ turnedDown Space (lent printedInput 4 2 80)
     ∷ turnedDown Space (lent printedInput cells (engines - 1) 80)
     ∷ turnedDown Space (lent printedInput cells (engines + 1) 80)

@@ -22,10 +22,8 @@ turned-down =
     -- 6: a leading zero, and a MODE that is no mode
     ∷ example "plan,fixed,060,9" "refused,6,1,0\r\n"
     ∷ example "plan,fast,60,9" "refused,6,1,0\r\n"
-    -- 7: 13 engine records
+    -- 7: 13 engine records (Examples/Deliveries has the 38th delivery)
     ∷ example "plan,fixed,60,9\r\nengine,E1,5,5\r\nengine,E2,5,5\r\nengine,E3,5,5\r\nengine,E4,5,5\r\nengine,E5,5,5\r\nengine,E6,5,5\r\nengine,E7,5,5\r\nengine,E8,5,5\r\nengine,E9,5,5\r\nengine,E10,5,5\r\nengine,E11,5,5\r\nengine,E12,5,5\r\nengine,E13,5,5" "refused,7,14,0\r\n"
-    -- 7: a 65th delivery
-    ∷ example "plan,fixed,60,9\r\nengine,E1,60,1000\r\ndelivery,D1,1,1\r\ndelivery,D2,1,1\r\ndelivery,D3,1,1\r\ndelivery,D4,1,1\r\ndelivery,D5,1,1\r\ndelivery,D6,1,1\r\ndelivery,D7,1,1\r\ndelivery,D8,1,1\r\ndelivery,D9,1,1\r\ndelivery,D10,1,1\r\ndelivery,D11,1,1\r\ndelivery,D12,1,1\r\ndelivery,D13,1,1\r\ndelivery,D14,1,1\r\ndelivery,D15,1,1\r\ndelivery,D16,1,1\r\ndelivery,D17,1,1\r\ndelivery,D18,1,1\r\ndelivery,D19,1,1\r\ndelivery,D20,1,1\r\ndelivery,D21,1,1\r\ndelivery,D22,1,1\r\ndelivery,D23,1,1\r\ndelivery,D24,1,1\r\ndelivery,D25,1,1\r\ndelivery,D26,1,1\r\ndelivery,D27,1,1\r\ndelivery,D28,1,1\r\ndelivery,D29,1,1\r\ndelivery,D30,1,1\r\ndelivery,D31,1,1\r\ndelivery,D32,1,1\r\ndelivery,D33,1,1\r\ndelivery,D34,1,1\r\ndelivery,D35,1,1\r\ndelivery,D36,1,1\r\ndelivery,D37,1,1\r\ndelivery,D38,1,1\r\ndelivery,D39,1,1\r\ndelivery,D40,1,1\r\ndelivery,D41,1,1\r\ndelivery,D42,1,1\r\ndelivery,D43,1,1\r\ndelivery,D44,1,1\r\ndelivery,D45,1,1\r\ndelivery,D46,1,1\r\ndelivery,D47,1,1\r\ndelivery,D48,1,1\r\ndelivery,D49,1,1\r\ndelivery,D50,1,1\r\ndelivery,D51,1,1\r\ndelivery,D52,1,1\r\ndelivery,D53,1,1\r\ndelivery,D54,1,1\r\ndelivery,D55,1,1\r\ndelivery,D56,1,1\r\ndelivery,D57,1,1\r\ndelivery,D58,1,1\r\ndelivery,D59,1,1\r\ndelivery,D60,1,1\r\ndelivery,D61,1,1\r\ndelivery,D62,1,1\r\ndelivery,D63,1,1\r\ndelivery,D64,1,1\r\ndelivery,D65,1,1" "refused,7,67,0\r\n"
     -- 8: a plan alone
     ∷ example "plan,fixed,60,9" "refused,8,0,0\r\n"
     -- 2 before 3 within a record

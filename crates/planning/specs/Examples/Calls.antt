@@ -79,17 +79,24 @@ calls =
       table = [];
       spare = 50 ∷ [];
     }
+    -- "37 are accepted"
+    ∷ record {
+      given = call Fixed 60 0 (40 ∷ []) (1000 ∷ []) (replicate 37 1) (replicate 37 2) 37 1;
+      answer = Answered (record { outcome = Found; minutes = 60; tries = 0 });
+      table = replicate 37 1;
+      spare = 3 ∷ [];
+    }
     -- 3: paired lists differ in length
     ∷ turnedDown Fields 0 (call Fixed 60 100 (3000 ∷ 5000 ∷ []) (1 ∷ []) (5000 ∷ 3000 ∷ []) (2 ∷ 2 ∷ []) 4 2)
     ∷ turnedDown Fields 0 (call Fixed 60 100 (3000 ∷ 5000 ∷ []) (1000000000 ∷ 1000000000 ∷ []) (5000 ∷ 3000 ∷ []) (1 ∷ 2 ∷ 3 ∷ []) 4 2)
     -- 8: no engine
     ∷ turnedDown NoEngine 0 (call Fixed 60 100 ([]) ([]) ([]) ([]) 0 0)
-    -- 7: a 13th engine, a 65th delivery
+    -- 7: a 13th engine, a 38th delivery
     ∷ turnedDown Count 0 (call Fixed 60 100 (replicate 13 1) (replicate 13 1) ([]) ([]) 0 13)
-    ∷ turnedDown Count 0 (call Fixed 60 100 (1 ∷ []) (1 ∷ []) (replicate 65 1) (replicate 65 1) 65 1)
-    -- 9: a lent table or spare list of the wrong length; 768 is for a file
+    ∷ turnedDown Count 0 (call Fixed 60 100 (1 ∷ []) (1 ∷ []) (replicate 38 1) (replicate 38 1) 38 1)
+    -- 9: a lent table or spare list of the wrong length; 444 is for a file
     ∷ turnedDown Space 0 (call Fixed 60 100 (3000 ∷ 5000 ∷ []) (1000000000 ∷ 1000000000 ∷ []) (5000 ∷ 3000 ∷ []) (2 ∷ 2 ∷ []) 3 2)
-    ∷ turnedDown Space 0 (call Fixed 60 100 (3000 ∷ 5000 ∷ []) (1000000000 ∷ 1000000000 ∷ []) (5000 ∷ 3000 ∷ []) (2 ∷ 2 ∷ []) 768 2)
+    ∷ turnedDown Space 0 (call Fixed 60 100 (3000 ∷ 5000 ∷ []) (1000000000 ∷ 1000000000 ∷ []) (5000 ∷ 3000 ∷ []) (2 ∷ 2 ∷ []) 444 2)
     ∷ turnedDown Space 0 (call Fixed 60 100 (3000 ∷ 5000 ∷ []) (1000000000 ∷ 1000000000 ∷ []) (5000 ∷ 3000 ∷ []) (2 ∷ 2 ∷ []) 4 3)
     -- 6, with the record number where plan is first, engines, then deliveries
     ∷ turnedDown Value 1 (call Fixed 0 100 (3000 ∷ 5000 ∷ []) (1000000000 ∷ 1000000000 ∷ []) (5000 ∷ 3000 ∷ []) (2 ∷ 2 ∷ []) 4 2)
@@ -102,7 +109,7 @@ calls =
     ∷ turnedDown Value 5 (call Fixed 60 100 (3000 ∷ 5000 ∷ []) (1000000000 ∷ 1000000000 ∷ []) (5000 ∷ 18446744073709551615 ∷ []) (2 ∷ 2 ∷ []) 4 2)
     -- 3 before 8, 8 before 7, 7 before 9, 9 before 6; and 6 by the place in front
     ∷ turnedDown Fields 0 (call Fixed 60 100 ([]) (1 ∷ []) ([]) ([]) 0 0)
-    ∷ turnedDown NoEngine 0 (call Fixed 60 100 ([]) ([]) (replicate 65 1) (replicate 65 1) 1 1)
+    ∷ turnedDown NoEngine 0 (call Fixed 60 100 ([]) ([]) (replicate 38 1) (replicate 38 1) 1 1)
     ∷ turnedDown Count 0 (call Fixed 60 100 (replicate 13 1) (replicate 13 1) ([]) ([]) 1 1)
     ∷ turnedDown Space 0 (call Fixed 0 100 (3000 ∷ 5000 ∷ []) (1000000000 ∷ 1000000000 ∷ []) (5000 ∷ 3000 ∷ []) (2 ∷ 2 ∷ []) 3 2)
     ∷ turnedDown Value 2 (call Fixed 60 100 (5000001 ∷ 5000 ∷ []) (1 ∷ 1000000001 ∷ []) (0 ∷ 0 ∷ []) (0 ∷ 0 ∷ []) 4 2)

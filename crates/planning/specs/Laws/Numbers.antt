@@ -119,7 +119,7 @@ unrefused-iff call =
       λ e.
           let (
             engine-lists,
-            (delivery-lists, (one, (twelve, (sixty-four, (table, (spare, (minutes, (allowance, (engines, deliveries))))))))),
+            (delivery-lists, (some-engine, (few-engines, (few-deliveries, (table, (spare, (minutes, (allowance, (engines, deliveries))))))))),
           ) = simp the-checks at e in
           record {
             engineLists = engine-lists;
@@ -128,8 +128,8 @@ unrefused-iff call =
                 record {
                   minutes = minutes;
                   allowance = allowance;
-                  engineCount = rw (engine-count _ _ engine-lists) (record { least = one; most = twelve });
-                  deliveryCount = rw (delivery-count _ _ delivery-lists) (record { least = omega arith; most = sixty-four });
+                  engineCount = rw (engine-count _ _ engine-lists) (record { least = some-engine; most = few-engines });
+                  deliveryCount = rw (delivery-count _ _ delivery-lists) (record { least = omega arith; most = few-deliveries });
                   engines = the-engines .0 engines;
                   deliveries = the-deliveries .0 deliveries;
                 };

@@ -2,7 +2,6 @@
 -- Assumes nothing.
 use mathlib.Core.Path.{ap, _∙_}
 use Prim.Native.Nat.{ℕ, _-_}
-use lib.Dec.{ltb}
 use lib.Pow.{pow-pos}
 use native.Mathlib.Omega.{arith}
 use Rattle.search.specs.Laws.FirstSet.{has-first}
@@ -15,13 +14,10 @@ shl-result : tie.Need-shl-result
 shl-result c = omega arith
 
 sub-result : tie.Need-sub-result
-sub-result c = let n = c .before .args .n in omega (arith, shifted deliveryBits n (omega arith), pow-pos n)
+sub-result c = let n = c .args .n in omega (arith, shifted deliveryBits n (omega arith), pow-pos n)
 
 returns : tie.Need-returns
-returns c = λ p. has-first deliveryBits p ∙ ap (λ (n : ℕ). ltb p n) (omega arith)
-
-returns-2 : tie.Need-returns-2
-returns-2 c = λ p. let n = c .before .args .n in ap (λ (m : ℕ). has (m - 1) p) (shifted deliveryBits n (omega arith)) ∙ has-first n p
+returns c = λ p. let n = c .args .n in ap (λ (m : ℕ). has (m - 1) p) (shifted deliveryBits n (omega arith)) ∙ has-first n p
 
 pub first-deliveries-spec : {M : Type 1} → statement M
-first-deliveries-spec = tie.close (tie.spec shl-result sub-result returns returns-2)
+first-deliveries-spec = tie.close (tie.spec shl-result sub-result returns)
