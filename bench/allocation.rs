@@ -1,5 +1,5 @@
 // Time per try of the proved allocation beside a plain Rust program with the same answers, in one process. The plain program's state is
-// handed on by value, holds 64 rests and limits, and its choice is a scan.
+// handed on by value, holds 37 rests and limits, and its choice is a scan.
 mod plans;
 
 use plans::{plan, plans, proved, Answer, Plan};
@@ -9,7 +9,7 @@ mod plain {
     use super::{Answer, Plan};
 
     #[derive(Clone, Copy)]
-    struct State { remaining: [u32; 12], rest: [u32; 64], limit: [u8; 64] }
+    struct State { remaining: [u32; 12], rest: [u32; 37], limit: [u8; 37] }
 
     enum Ended { Found(u32), None(u32), Stopped(u32) }
 
@@ -95,7 +95,7 @@ mod plain {
     }
 
     pub fn allocate(p: &Plan) -> Answer {
-        let mut s = State { remaining: [0; 12], rest: [0; 64], limit: [0; 64] };
+        let mut s = State { remaining: [0; 12], rest: [0; 37], limit: [0; 37] };
         for i in 0..p.watts.len() { s.remaining[i] = (p.watts[i] * p.minutes / 60).min(p.fuels[i]) as u32; }
         for d in 0..p.energies.len() { s.rest[d] = p.energies[d] as u32; s.limit[d] = p.limits[d] as u8; }
         let mut table = vec![7u64; p.watts.len() * p.energies.len()];
@@ -118,10 +118,10 @@ fn nanoseconds(run: impl Fn() -> Answer) -> (f64, Answer) {
     (best / answer.tries.max(1) as f64, answer)
 }
 
-// The deepest found search: 63 deliveries laid, 11 engines cut for the last one, and its rest laid.
+// The deepest found search: 36 deliveries laid, 11 engines cut for the last one, and its rest laid.
 fn deepest() -> Plan {
-    let capacities = (0..12).map(|i| if i == 0 { 163 } else { 100 }).collect();
-    plan("deepest", capacities, (0..64).map(|p| if p < 63 { (1, 1) } else { (1200, 12) }).collect())
+    let capacities = (0..12).map(|i| if i == 0 { 136 } else { 100 }).collect();
+    plan("deepest", capacities, (0..37).map(|p| if p < 36 { (1, 1) } else { (1200, 12) }).collect())
 }
 
 // Runs the deepest search on a stack of so many KiB, in both modes; a stack too small ends the process.
@@ -129,7 +129,7 @@ fn on_stack(kib: usize) {
     let run = || {
         let p = deepest();
         let fixed = proved(0, &p);
-        assert_eq!((fixed.word, fixed.tries), (0, 75));
+        assert_eq!((fixed.word, fixed.tries), (0, 48));
         assert_eq!(proved(1, &p), fixed);
     };
     std::thread::Builder::new().stack_size(kib * 1024).spawn(run).unwrap().join().unwrap();

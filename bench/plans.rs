@@ -34,8 +34,8 @@ pub fn plans() -> Vec<Plan> {
     vec![
         plan("13 of limit 1 on 12 engines", even(1000), vec![(900, 1); 13]),
         plan("24 of limit 1, uneven", steps.clone(), (0..24).map(|p| (400 + 5 * p, 1)).collect()),
-        plan("40 of limit 1", even(1000), vec![(300, 1); 40]),
-        plan("64 of limit 1, tight", even(1000), vec![(187, 1); 64]),
+        plan("30 of limit 1", even(1000), vec![(390, 1); 30]),
+        plan("37 of limit 1, tight", even(1000), vec![(324, 1); 37]),
         plan("7 of limit 2", even(1000), vec![(1600, 2); 7]),
         plan("limits 1 and 2 mixed", even(1000), (0..14).map(|p| if p % 2 == 0 { (700, 1) } else { (990, 2) }).collect()),
         plan("limits 1, 2 and 3 mixed", steps.clone(), (0..15).map(|p| (760 + 2 * p, 1 + p % 3)).collect()),

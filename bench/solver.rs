@@ -66,7 +66,7 @@ fn all() -> Vec<Plan> {
     let mut all = vec![
         plan("document 01's example", vec![3000, 5000], vec![(5000, 2), (3000, 2)]),
         plan("none after 4 tries", vec![4000, 4000], vec![(3000, 1), (3000, 1), (2000, 1)]),
-        plan("12 engines, 64 of limit 2", vec![1000; 12], vec![(187, 2); 64]),
+        plan("12 engines, 37 of limit 2", vec![1000; 12], vec![(324, 2); 37]),
     ];
     all.extend(plans());
     all
