@@ -9,6 +9,7 @@ import random
 import re
 
 MOST = 10**9
+ENGINES, DELIVERIES = 12, 37
 
 
 class Stopped(Exception):
@@ -104,7 +105,7 @@ def answer(mode, minutes, allowance, watts, fuels, energies, limits, table, spar
         return "refused", 3, 0, None, None
     if not watts:
         return "refused", 8, 0, None, None
-    if len(watts) > 12 or len(energies) > 37:
+    if len(watts) > ENGINES or len(energies) > DELIVERIES:
         return "refused", 7, 0, None, None
     if table != len(watts) * len(energies) or spare != len(watts):
         return "refused", 9, 0, None, None

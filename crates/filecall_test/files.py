@@ -15,10 +15,9 @@ import examples  # noqa: E402
 import plans  # noqa: E402
 
 MOST = 10**9
-DELIVERIES = 37
-TABLE, SPARE = 12 * DELIVERIES, 12
+TABLE, SPARE = plans.ENGINES * plans.DELIVERIES, plans.ENGINES
 # no print is longer: a line, and one of 88 bytes for each engine and delivery
-PRINT = 27 + (12 + DELIVERIES) * 88
+PRINT = 27 + (plans.ENGINES + plans.DELIVERIES) * 88
 
 
 class Refused(Exception):
@@ -62,9 +61,9 @@ def read(file):
             if None in head:
                 raise Refused(6, record)
         elif fields[0] == b"engine":
-            item(fields, engines, 12, [(0, 5_000_000), (0, MOST)], record)
+            item(fields, engines, plans.ENGINES, [(0, 5_000_000), (0, MOST)], record)
         else:
-            item(fields, deliveries, DELIVERIES, [(1, MOST), (1, 12)], record)
+            item(fields, deliveries, plans.DELIVERIES, [(1, MOST), (1, 12)], record)
     if not engines:
         raise Refused(8, 0)
     return head, engines, deliveries

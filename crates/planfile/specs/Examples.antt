@@ -1,6 +1,6 @@
 -- Files with what the planner prints for them, evaluated from the definitions.
 pub mod Calls
-pub mod Deliveries
+pub mod Counts
 pub mod Evaluation
 pub mod Printed
 pub mod TurnedDown

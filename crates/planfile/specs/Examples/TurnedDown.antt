@@ -1,4 +1,5 @@
--- Each row of document 01's table "Turned down" with its example, and cases of its "Order" in which two faults meet, by evaluation.
+-- Each row of document 01's table "Turned down" with its example, and cases of its "Order" in which two faults meet, by evaluation. Examples/Counts
+-- has row 7, Examples/Calls row 9.
 -- Assumes nothing.
 use mathlib.Core.Path.{_≡_, refl}
 use mathlib.Core.List.{List, [], _∷_}
@@ -22,8 +23,6 @@ turned-down =
     -- 6: a leading zero, and a MODE that is no mode
     ∷ example "plan,fixed,060,9" "refused,6,1,0\r\n"
     ∷ example "plan,fast,60,9" "refused,6,1,0\r\n"
-    -- 7: 13 engine records (Examples/Deliveries has the 38th delivery)
-    ∷ example "plan,fixed,60,9\r\nengine,E1,5,5\r\nengine,E2,5,5\r\nengine,E3,5,5\r\nengine,E4,5,5\r\nengine,E5,5,5\r\nengine,E6,5,5\r\nengine,E7,5,5\r\nengine,E8,5,5\r\nengine,E9,5,5\r\nengine,E10,5,5\r\nengine,E11,5,5\r\nengine,E12,5,5\r\nengine,E13,5,5" "refused,7,14,0\r\n"
     -- 8: a plan alone
     ∷ example "plan,fixed,60,9" "refused,8,0,0\r\n"
     -- 2 before 3 within a record
@@ -32,8 +31,6 @@ turned-down =
     ∷ example "engine,E1,5" "refused,3,1,0\r\n"
     -- 4 before 5 and 6 within a record: a plan later, whatever its fields hold
     ∷ example "plan,fixed,60,9\r\nengine,E1,60,1000\r\nplan,x,y,z" "refused,4,3,0\r\n"
-    -- 7 before 5 and 6 within a record
-    ∷ example "plan,fixed,60,9\r\nengine,E1,5,5\r\nengine,E2,5,5\r\nengine,E3,5,5\r\nengine,E4,5,5\r\nengine,E5,5,5\r\nengine,E6,5,5\r\nengine,E7,5,5\r\nengine,E8,5,5\r\nengine,E9,5,5\r\nengine,E10,5,5\r\nengine,E11,5,5\r\nengine,E12,5,5\r\nengine,E1,x,y" "refused,7,14,0\r\n"
     -- 5 before 6 within a record
     ∷ example "plan,fixed,60,9\r\nengine,,x,5" "refused,5,2,0\r\n"
     -- 6 before 2 in a later record: the first faulty record decides

@@ -12,7 +12,8 @@ use Rattle.planning.specs.declared.Mode.{Mode}
 use Rattle.planning.specs.declared.Mode.the-variants.{Fixed, Shortest}
 use Rattle.planning.specs.declared.Outcome.the-variants.{Found, None, Stopped}
 use Rattle.planning.specs.Examples.Evaluation.{evaluated}
-use Rattle.planning.specs.Numbers.{Call, callOn, enginesOf, deliveriesOf, planOf, within, engineFault, deliveryFault, refusalOf, answeredBy, allocation, unlessRefused, tableOnExit, spareOnExit}
+use Rattle.planning.specs.Numbers.{Call, callOn, enginesOf, deliveriesOf, planOf, within, engineFault, deliveryFault, refusalOf}
+use Rattle.planning.specs.Numbers.{answeredBy, allocation, unlessRefused, tableOnExit, spareOnExit}
 use Rattle.planning.specs.Refusals.{check, _then_, checkEach}
 
 -- a call that is lent a table and a spare list of those lengths, each filled with a pattern
