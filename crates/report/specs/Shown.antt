@@ -19,12 +19,13 @@ unfoldable pub hexEscape : ℕ → List ℕ
 unfolding ascii
 hexEscape b = backslash ∷ ascii "x" ++ (hexDigit (b / 16) ∷ hexDigit (b % 16) ∷ [])
 
--- a byte as it is shown: \r, \n and \\ for CR, LF and the backslash, itself where it can be printed, and by its digits where not
+-- the letter of a byte that has an escape of its own, \r, \n and \\ for CR, LF and the backslash; 0 where it has none
+unfoldable pub ownLetter : ℕ → ℕ
+ownLetter b = cond (eqb b carriageReturn) 0x72 (cond (eqb b lineFeed) 0x6E (cond (eqb b backslash) backslash 0))
+
+-- a byte as it is shown: by its own escape where it has one, itself where it can be printed, and by its digits where not
 unfoldable pub escaped : ℕ → List ℕ
-unfolding ascii
-escaped b =
-    cond (eqb b carriageReturn) (backslash ∷ ascii "r") (cond (eqb b lineFeed) (backslash ∷ ascii "n") (cond (eqb b backslash) (backslash ∷ backslash ∷ [])
-    (cond (leb 0x20 b && leb b 0x7E) (b ∷ []) (hexEscape b))))
+escaped b = cond (ltb 0 (ownLetter b)) (backslash ∷ ownLetter b ∷ []) (cond (leb 0x20 b && leb b 0x7E) (b ∷ []) (hexEscape b))
 
 -- a text for each byte, and behind them the bracket that closes
 unfoldable pub closedTexts : List ℕ → List Text

@@ -5,7 +5,7 @@ ghost use mathlib.Core.Path.{_≡_};
 ghost use mathlib.Core.List.{[], _∷_};
 ghost use Prim.Native.Nat.{_<_};
 ghost use Rattle.lines.specs.Putting.{plain, output, Puts};
-ghost use Rattle.report.specs.Shown.{hexDigit, hexEscape, escaped, shownTexts};
+ghost use Rattle.report.specs.Shown.{hexDigit, hexEscape, ownLetter, escaped, shownTexts};
 
 // The hexadecimal digit of a number below 16.
 fn hex_digit(n: u8) -> u8
@@ -23,23 +23,32 @@ fn write_hex(b: u8, out: &mut [u8], to: Wrote) -> Wrote
     write_bytes(&hex, out, to)
 }
 
-// A byte as itself where it can be printed, and as an escape where not.
+// The letter of a byte that has an escape of its own, 0 where it has none.
+fn own_letter(b: u8) -> u8
+    ensures { λ r. ⌜ r ≡ ownLetter b ⌝ }
+{
+    if b == 0x0D {
+        return b'r';
+    }
+    if b == 0x0A {
+        return b'n';
+    }
+    if b == 0x5C {
+        return 0x5C;
+    }
+    0
+}
+
+// A byte by its own escape where it has one, as itself where it can be printed, and by its digits where not.
 fn write_escaped(b: u8, out: &mut [u8], to: Wrote) -> Wrote
     ensures { λ r. ⌜ Puts (plain (escaped b) ∷ []) (output to (now (out .entry))) (output r (now (out .exit))) ⌝ }
 {
-    if b == 0x0D {
-        return write_bytes(b"\\r", out, to);
+    let letter = own_letter(b);
+    if letter != 0 {
+        let escape = [0x5C, letter];
+        return write_bytes(&escape, out, to);
     }
-    if b == 0x0A {
-        return write_bytes(b"\\n", out, to);
-    }
-    if b == 0x5C {
-        return write_bytes(b"\\\\", out, to);
-    }
-    if b < 0x20 {
-        return write_hex(b, out, to);
-    }
-    if 0x7E < b {
+    if b < 0x20 || 0x7E < b {
         return write_hex(b, out, to);
     }
     let same = [b];

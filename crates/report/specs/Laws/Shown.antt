@@ -1,14 +1,18 @@
 -- How each byte is shown, and bytes from a place on. Assumes nothing.
-use mathlib.Core.Path.{_≡_}
+use mathlib.Core.Path.{_≡_, refl}
+use mathlib.Core.Logic.{_≢_, _⊎_, inl, inr}
+use mathlib.Core.Bool.{Bool, true, false, cond, _&&_}
 use mathlib.Core.List.{List, [], _∷_, _++_}
 use Prim.Native.Nat.{ℕ, _+_, _≤_, _<_}
+use lib.Dec.{leb}
 use lib.ListN.{length, drop, getD, drop-of-length-le}
+use native.Mathlib.Omega.{arith}
 use borrow.Author.Tests.{lt-ltb, le-ltb, le-leb, lt-leb, ne-eqb}
 use Rattle.rfc4180.specs.Bytes.{carriageReturn, lineFeed}
 use Rattle.rfc4180.specs.Laws.Places.{bytes-from}
 use Rattle.rfc4180.specs.Text.{ascii}
 use Rattle.lines.specs.Putting.{plain}
-use Rattle.report.specs.Shown.{backslash, hexDigit, hexEscape, escaped, closedTexts}
+use Rattle.report.specs.Shown.{backslash, hexDigit, hexEscape, ownLetter, escaped, closedTexts}
 
 module _ (n : ℕ) where
   pub digit-small : n < 10 → hexDigit n ≡ 0x30 + n
@@ -19,33 +23,29 @@ module _ (n : ℕ) where
   unfolding hexDigit
   digit-large h = rw (le-ltb n 10 h)
 
--- the bytes that have escapes of their own
-pub shown-return : {b : ℕ} → b ≡ carriageReturn → escaped b ≡ backslash ∷ ascii "r"
-unfolding escaped
-shown-return e = rw e
+-- a byte's own escape
+pub letter-none : {b : ℕ} → (b ≡ carriageReturn → ⊥) → (b ≡ lineFeed → ⊥) → (b ≡ backslash → ⊥) → ownLetter b ≡ 0
+unfolding ownLetter
+letter-none {b} return feed slash = rw (ne-eqb b carriageReturn return, ne-eqb b lineFeed feed, ne-eqb b backslash slash)
 
-pub shown-feed : {b : ℕ} → b ≡ lineFeed → escaped b ≡ backslash ∷ ascii "n"
-unfolding escaped
-shown-feed e = rw e
-
-pub shown-backslash : {b : ℕ} → b ≡ backslash → escaped b ≡ backslash ∷ backslash ∷ []
-unfolding escaped
-shown-backslash e = rw e
-
--- and those that have none
-module _ {b : ℕ} (return : b ≡ carriageReturn → ⊥) (feed : b ≡ lineFeed → ⊥) (slash : b ≡ backslash → ⊥) where
-  pub shown-low : b < 0x20 → escaped b ≡ hexEscape b
+-- how a byte is shown, by the letter of its own escape
+module _ (b : ℕ) {letter : ℕ} (is : letter ≡ ownLetter b) where
+  pub shown-own : letter ≢ 0 → escaped b ≡ backslash ∷ letter ∷ []
   unfolding escaped
-  shown-low low = rw (ne-eqb b carriageReturn return, ne-eqb b lineFeed feed, ne-eqb b backslash slash, lt-leb 0x20 b low)
+  shown-own some = rw (is, lt-ltb 0 (ownLetter b) (omega (arith, is, some)))
 
-  pub shown-high : 0x20 ≤ b → 0x7E < b → escaped b ≡ hexEscape b
+  pub shown-hex : letter ≡ 0 → (b < 0x20) ⊎ (0x7E < b) → escaped b ≡ hexEscape b
   unfolding escaped
-  shown-high above high = rw (ne-eqb b carriageReturn return, ne-eqb b lineFeed feed, ne-eqb b backslash slash, le-leb 0x20 b above, lt-leb b 0x7E high)
+  shown-hex none (inl low) = rw (le-ltb 0 (ownLetter b) (omega (arith, is, none)), lt-leb 0x20 b low)
+  shown-hex none (inr high) = rw (le-ltb 0 (ownLetter b) (omega (arith, is, none)), lt-leb b 0x7E high) (go (leb 0x20 b))
+    where
+      go : (t : Bool) → cond (t && false) (b ∷ []) (hexEscape b) ≡ hexEscape b
+      go true = refl
+      go false = refl
 
-  pub shown-itself : 0x20 ≤ b → b ≤ 0x7E → escaped b ≡ b ∷ []
+  pub shown-itself : letter ≡ 0 → 0x20 ≤ b → b ≤ 0x7E → escaped b ≡ b ∷ []
   unfolding escaped
-  shown-itself above below =
-      rw (ne-eqb b carriageReturn return, ne-eqb b lineFeed feed, ne-eqb b backslash slash, le-leb 0x20 b above, le-leb b 0x7E below)
+  shown-itself none above below = rw (le-ltb 0 (ownLetter b) (omega (arith, is, none)), le-leb 0x20 b above, le-leb b 0x7E below)
 
 -- the texts of bytes from a place on
 module _ (bytes : List ℕ) (i : ℕ) where
