@@ -29,16 +29,6 @@ use Rattle.checks.specs.Parts.{countsRefusal, nextPlace, firstFailing, f
 
 -- ---- the first member that fails
 
-module _ {A : Type 0} (sound : A → Bool) where
-  pub first-within : (xs : List A) → firstFailing sound xs ≤ length xs
-  unfolding firstFailing nextPlace
-  first-within [] = omega arith
-  first-within (x ∷ xs) = go (sound x) (first-within xs)
-    where
-      go : (b : Bool) → firstFailing sound xs ≤ length xs → nextPlace b (firstFailing sound xs) ≤ length (x ∷ xs)
-      go true l = omega arith
-      go false l = omega arith
-
 -- in a list of numbers, from a place on
 module _ (sound : ℕ → Bool) (xs : List ℕ) (i : ℕ) where
   pub first-passes : i < length xs → sound (at xs i) ≡ true → i + firstFailing sound (drop i xs) ≡ i + 1 + firstFailing sound (drop (i + 1) xs)

@@ -106,7 +106,8 @@ module _ (call : FileCall) (lent : List ℕ) (cells : length (call .table) ≡ m
         put-print = rw (aside-made .0) at put
 
         -- where it fits, all is handed over
-        pub aside-handed : {to : ℕ} → next ≡ Next to → {table″ spare″ : List ℕ} → table″ ≡ table′ → spare″ ≡ spare′ → FilePromised call (Printed a n) table″ spare″ out
+        pub aside-handed : {to : ℕ} → next ≡ Next to → {table″ spare″ : List ℕ} → table″ ≡ table′ → spare″ ≡ spare′
+            → FilePromised call (Printed a n) table″ spare″ out
         unfolding answerToFile answerBy fileTable fileSpare onExit overFront
         aside-handed e t s =
             let m = plan-read .1 in

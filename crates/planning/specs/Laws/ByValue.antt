@@ -15,7 +15,7 @@ use Rattle.planning.specs.Laws.Numbers.{engine-count, delivery-count}
 use Rattle.planning.specs.Laws.Padded.{length-padded, at-padded}
 use Rattle.planning.specs.Laws.Tables.{length-listed, at-listed, listed-same, listed-each, listed-take, listed-pairs, map-listed}
 use Rattle.planning.specs.Numbers.{Call, Accepted, enginesOf, deliveriesOf, planOf}
-use Rattle.planning.specs.Plan.{Engine, Delivery, EngineInRange, DeliveryInRange, InRange, energies, limits}
+use Rattle.planning.specs.Plan.{Engine, Delivery, EngineInRange, DeliveryInRange, energies, limits}
 use Rattle.planning.specs.Tables.{at, listed}
 
 -- ---- engines
@@ -71,18 +71,6 @@ module _ {p : ByValue} (u : Usable p) where
   limits-in =
       map-listed (λ (d : Delivery). d .limit) (p .deliveries .count) _
       ∙ listed-take (p .deliveries .count) (p .deliveries .limit) (omega (arith, u .deliveries .limit, u .deliveries .count .most))
-
-  pub usable-in-range : InRange (planIn p)
-  unfolding planIn
-  usable-in-range =
-      record {
-        minutes = u .minutes;
-        allowance = u .allowance;
-        engineCount = rw (count-engines-in (p .engines)) (u .engines .count);
-        deliveryCount = rw (count-deliveries-in (p .deliveries)) (u .deliveries .count);
-        engines = u .engines .ranges;
-        deliveries = u .deliveries .ranges;
-      }
 
 -- ---- the numbers of an accepted call
 

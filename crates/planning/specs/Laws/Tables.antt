@@ -1,7 +1,7 @@
 -- Lists given place by place: their lengths and entries, and what holds of each entry.
 -- Assumes nothing.
 use mathlib.Core.Path.{_≡_, refl, ap, ap₂}
-use mathlib.Core.List.{List, [], _∷_, _++_, map, zipWith}
+use mathlib.Core.List.{List, [], _∷_, map, zipWith}
 use Prim.Native.Nat.{ℕ, zero, suc, _≤_, _<_}
 use native.Mathlib.Nat.{suc-inj}
 use native.Mathlib.Omega.{arith}
@@ -24,16 +24,11 @@ listed-at (suc n) (suc k) f other l = listed-at n k (λ j. f (suc j)) other (ome
 pub at-listed : (n : ℕ) (f : ℕ → ℕ) (i : ℕ) → i < n → at (listed n f) i ≡ f i
 at-listed n f i l = listed-at n i f 0 l
 
--- place by place the same, and with one place more
+-- place by place the same
 pub listed-same : {A : Type 0} (n : ℕ) (f g : ℕ → A) → ((k : ℕ) → k < n → f k ≡ g k) → listed n f ≡ listed n g
 unfolding listed
 listed-same zero f g e = refl
 listed-same (suc n) f g e = ap₂ _∷_ (e 0 (omega arith)) (listed-same n (λ k. f (suc k)) (λ k. g (suc k)) (λ k l. e (suc k) (omega arith)))
-
-pub listed-last : {A : Type 0} (n : ℕ) (f : ℕ → A) → listed (suc n) f ≡ listed n f ++ f n ∷ []
-unfolding listed
-listed-last zero f = refl
-listed-last (suc n) f = ap (λ (items : List _). f 0 ∷ items) (listed-last n (λ k. f (suc k)))
 
 -- each item changed
 pub map-listed : {A B : Type 0} (h : A → B) (n : ℕ) (f : ℕ → A) → map h (listed n f) ≡ listed n (λ k. h (f k))
