@@ -1,6 +1,6 @@
 // What calls are lent, with a margin around it that nobody may touch, and how they ended.
 
-use super::reference::Answer;
+use super::reference::{Answer, Span};
 use std::collections::BTreeMap;
 use std::fmt::Debug;
 
@@ -56,6 +56,34 @@ impl Counts {
                 format!("{mode} {}", ["found", "none", "stopped"][word as usize])
             }
         });
+    }
+
+    /// Where an answer under spans stands to them: the minute before the answered ones is the last that counts.
+    pub fn add_spans(&mut self, answer: Answer, shortest: bool, spans: &[Span]) {
+        let (word, minutes) = match answer {
+            Answer::Answered { word, minutes, .. } if !spans.is_empty() => (word, minutes),
+            _ => return,
+        };
+        self.add(format!("{} with spans", ["found", "none", "stopped"][word as usize]));
+        let still = |engine: u64| {
+            let own = spans.iter().filter(|span| span.engine == engine);
+            own.map(|span| span.to.min(minutes) - span.from.min(minutes)).sum::<u64>()
+        };
+        if (0..12).any(|engine| still(engine) == minutes) {
+            self.add("an engine quiet throughout".into());
+        }
+        if (0..12).any(|engine| spans.iter().filter(|span| span.engine == engine).count() == 8) {
+            self.add("eight spans".into());
+        }
+        if spans.iter().any(|one| spans.iter().any(|other| one.engine == other.engine && one.to == other.from)) {
+            self.add("spans that touch".into());
+        }
+        if shortest && word == 0 {
+            let mut add = |name: &str, is: &dyn Fn(&Span) -> bool| if spans.iter().any(is) { self.add(format!("shortest {name} a span")) };
+            add("before", &|span| minutes <= span.from);
+            add("inside", &|span| span.from < minutes && minutes <= span.to);
+            add("just behind", &|span| minutes == span.to + 1);
+        }
     }
 
     pub fn of(&self, outcome: &str) -> u64 { self.0.get(outcome).copied().unwrap_or(0) }

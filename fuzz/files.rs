@@ -1,7 +1,7 @@
 // Random files, valid and damaged, to the call with a file; with a program each file goes to that as well, and what it prints is compared.
 
 use super::calls::{Counts, Lengths, Lent};
-use super::plans::{engine_numbers, heading, shape, Shape};
+use super::plans::{damaged_span, heading, many_spans, shape, Shape};
 use super::proved;
 use super::random::Random;
 use super::reference::{self, Answer, PRINT_BYTES, SPARE_NUMBERS, TABLE_NUMBERS};
@@ -42,20 +42,28 @@ fn fresh_name(random: &mut Random, used: &mut Vec<Vec<u8>>) -> Vec<u8> {
     }
 }
 
-/// A file that is accepted: a plan, then engines and deliveries in any mixture.
+/// A file that is accepted: a plan, then engines, deliveries and quiet spans in any mixture, each span behind its engine.
 fn valid_records(random: &mut Random) -> Vec<Record> {
-    let Shape { shortest, minutes, allowance, capacities, demands } = shape(random);
+    let Shape { shortest, minutes, allowance, engines, demands } = shape(random);
+    let mut quiet = Vec::new();
     let (mut engine_names, mut delivery_names) = (Vec::new(), Vec::new());
     let mut records = vec![record("plan", mode(shortest), minutes, allowance)];
-    for capacity in capacities {
-        let (watts, fuel) = engine_numbers(random, capacity, minutes);
-        records.push(record("engine", fresh_name(random, &mut engine_names), watts, fuel));
+    for engine in engines {
+        let name = fresh_name(random, &mut engine_names);
+        quiet.extend(engine.spans.iter().map(|(from, to)| record("quiet", name.clone(), *from, *to)));
+        records.push(record("engine", name, engine.watts, engine.fuel));
     }
     for (energy, limit) in demands {
         records.push(record("delivery", fresh_name(random, &mut delivery_names), energy, limit));
     }
     if random.percent(50) {
         random.shuffle(&mut records[1..]);
+    }
+    let anywhere = random.percent(70);
+    for record in quiet {
+        let engine = records.iter().position(|other| other[0] == b"engine" && other[1] == record[1]).unwrap();
+        let place = if anywhere { random.between(engine as u64 + 1, records.len() as u64) as usize } else { engine + 1 };
+        records.insert(place, record);
     }
     records
 }
@@ -108,7 +116,7 @@ fn crowd(random: &mut Random, records: &mut Vec<Record>, kind: &str, count: usiz
 
 /// A name used before, too long, empty or with a byte that no name has.
 fn damage_name(random: &mut Random, records: &mut [Record]) {
-    let kind = random.pick(&[&b"engine"[..], b"delivery"]);
+    let kind = random.pick(&[&b"engine"[..], b"delivery", b"quiet"]);
     let places = places(records, kind);
     if places.is_empty() {
         return;
@@ -150,10 +158,79 @@ fn damage_number(random: &mut Random, records: &mut [Record]) {
 /// Another word in the first field or in the plan's mode.
 fn damage_word(random: &mut Random, records: &mut [Record]) {
     let (at, field) = if random.percent(30) { (0, 1) } else { (random.place(records.len()), 0) };
-    let words = ["", "plan", "engine", "delivery", "fixed", "shortest", "Plan", "engines", " engine", "delivery ", "Fixed", "\"fixed\""];
+    let words = ["", "plan", "engine", "delivery", "quiet", "fixed", "shortest", "Plan", "engines", " engine", "delivery ", "Quiet", "quiets",
+        "Fixed", "\"fixed\""];
     let word = random.pick(&words);
     if let Some(place) = records[at].get_mut(field) {
         *place = word.into();
+    }
+}
+
+/// FROM and TO of a quiet record, where they are numbers.
+fn span(record: &Record) -> (u64, u64) {
+    let number = |field: usize| record.get(field).and_then(|value| String::from_utf8_lossy(value).parse().ok()).unwrap_or(0);
+    (number(2), number(3))
+}
+
+/// A name that no engine has, or none before this place.
+fn damage_engine(random: &mut Random, records: &[Record], at: usize) -> Vec<u8> {
+    let mut name = records[at].get(1).cloned().unwrap_or_default();
+    let later: Vec<usize> = places(records, b"engine").into_iter().filter(|place| *place > at).collect();
+    let others = places(records, random.pick(&[&b"engine"[..], b"delivery", b"plan"]));
+    match random.below(9) {
+        0 | 1 if !later.is_empty() => return records[random.pick(&later)].get(1).cloned().unwrap_or_default(),
+        2 if !others.is_empty() => return records[random.pick(&others)].get(1).cloned().unwrap_or_default(),
+        3 => name.clear(),
+        4 => name.push(b' '),
+        5 => { name.pop(); }
+        6 => name = vec![random.pick(b"a\","); random.pick(&[16, 17, 300])],
+        7 => name.extend(b"\r\n"),
+        _ => name = if name.is_ascii() && name.to_ascii_uppercase() != name { name.to_ascii_uppercase() } else { name.to_ascii_lowercase() },
+    }
+    name
+}
+
+/// A quiet record that names no engine before it, or whose span is none; both, or with a number against its form; or a span more. Files without
+/// quiet records stay as they are.
+fn damage_quiet(random: &mut Random, records: &mut Vec<Record>) {
+    let quiet = places(records, b"quiet");
+    if quiet.is_empty() {
+        return;
+    }
+    let at = random.pick(&quiet);
+    let name = records[at].get(1).cloned().unwrap_or_default();
+    let (from, to) = damaged_span(random, span(&records[at]));
+    let mut copy = record("quiet", name.clone(), from, to);
+    match random.below(10) {
+        0 | 1 => records[at] = copy,
+        2..=4 => {
+            let place = random.between(at as u64 + 1, records.len() as u64) as usize;
+            records.insert(place, copy);
+        }
+        5 => {
+            records.retain(|other| other.first().map_or(true, |kind| kind != b"quiet") || other.get(1) != Some(&name));
+            for (from, to) in many_spans(random) {
+                records.push(record("quiet", name.clone(), from, to));
+            }
+        }
+        6 => {
+            // Before its engine, or before all of them.
+            let moved = records.remove(at);
+            let place = random.between(1, at as u64) as usize;
+            records.insert(place, moved);
+        }
+        7 => records[at][1] = damage_engine(random, records, at),
+        8 => {
+            copy[1] = damage_engine(random, records, at);
+            records[at] = copy;
+        }
+        _ => {
+            copy[random.between(2, 3) as usize] = random.pick(&["", "00", "x", "-1", "10081", "18446744073709551617"]).into();
+            if random.percent(50) {
+                copy[1] = damage_engine(random, records, at);
+            }
+            records[at] = copy;
+        }
     }
 }
 
@@ -221,6 +298,11 @@ fn lengthen(random: &mut Random, file: &mut Vec<u8>) {
 fn random_file(random: &mut Random) -> Vec<u8> {
     let mut records = valid_records(random);
     let kind = random.below(100);
+    if (40..60).contains(&kind) {
+        for _ in 0..random.pick(&[1, 1, 1, 2]) {
+            damage_quiet(random, &mut records);
+        }
+    }
     if (55..80).contains(&kind) {
         for _ in 0..random.pick(&[1, 1, 1, 2, 3]) {
             damage_records(random, &mut records);
@@ -273,7 +355,9 @@ pub fn compare(random: &mut Random, counts: &mut Counts) -> Result<(), String> {
     let expected = run(&mut theirs, reference::plan_file);
     if proved == expected && ours == theirs {
         // The first 16 bytes of an accepted file are of its plan record.
-        counts.add_answer(expected, file.windows(8).take(9).any(|part| part == b"shortest"));
+        let shortest = file.windows(8).take(9).any(|part| part == b"shortest");
+        counts.add_answer(expected, shortest);
+        counts.add_spans(expected, shortest, &reference::spans_of(&file));
         if matches!(expected, Answer::Answered { length, .. } if length == lengths.output) {
             counts.add("print just fits".into());
         }

@@ -28,12 +28,18 @@ const KINDS: [Kind; 3] = [
     Kind {
         name: "files", compare: files::compare,
         reached: &["fixed found", "fixed none", "fixed stopped", "shortest found", "shortest none", "shortest stopped", "print just fits",
-            "refused 1", "refused 2", "refused 3", "refused 4", "refused 5", "refused 6", "refused 7", "refused 8", "refused 9"],
+            "found with spans", "none with spans", "stopped with spans", "an engine quiet throughout", "eight spans", "spans that touch",
+            "shortest before a span", "shortest inside a span", "shortest just behind a span",
+            "refused 1", "refused 2", "refused 3", "refused 4", "refused 5", "refused 6", "refused 7", "refused 8", "refused 9", "refused 10",
+            "refused 11"],
     },
     Kind {
         name: "numbers", compare: numbers::compare,
         reached: &["fixed found", "fixed none", "fixed stopped", "shortest found", "shortest none", "shortest stopped",
-            "refused 3", "refused 6", "refused 7", "refused 8", "refused 9", "no mode, refused 6", "no mode, refused by another"],
+            "found with spans", "none with spans", "stopped with spans", "an engine quiet throughout", "eight spans", "spans that touch",
+            "shortest before a span", "shortest inside a span", "shortest just behind a span",
+            "refused 3", "refused 6", "refused 7", "refused 8", "refused 9", "refused 10", "refused 11", "no mode, refused 6",
+            "no mode, refused by another"],
     },
     Kind { name: "lookups", compare: lookups::compare, reached: &["named", "none", "refused 6", "refused 7", "refused 8"] },
 ];

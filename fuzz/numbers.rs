@@ -1,24 +1,30 @@
-// Random calls on numbers, accepted and damaged: lists, tables and spare lists of other lengths, numbers out of range, numbers that are no mode.
+// Random calls on numbers, accepted and damaged: lists, tables and spare lists of other lengths, numbers out of range, numbers that are no mode,
+// spans of no engine and spans that are none.
 
 use super::calls::{Counts, Lengths, Lent};
-use super::plans::{engine_numbers, shape, Shape};
+use super::plans::{damaged_span, many_spans, shape, Shape, WEEK};
 use super::proved;
 use super::random::Random;
-use super::reference::{self, Answer, Numbers};
+use super::reference::{self, Answer, Numbers, Span};
 
 #[derive(Debug)]
 struct Call {
     mode: u64, minutes: u64, allowance: u64,
-    watts: Vec<u64>, fuels: Vec<u64>, energies: Vec<u64>, limits: Vec<u64>,
+    watts: Vec<u64>, fuels: Vec<u64>, energies: Vec<u64>, limits: Vec<u64>, quiet: Vec<u64>,
     table: usize, spare: usize,
 }
 
 fn accepted(random: &mut Random) -> Call {
-    let Shape { shortest, minutes, allowance, capacities, demands } = shape(random);
-    let (watts, fuels): (Vec<u64>, Vec<u64>) = capacities.iter().map(|capacity| engine_numbers(random, *capacity, minutes)).unzip();
+    let Shape { shortest, minutes, allowance, engines, demands } = shape(random);
+    let (watts, fuels): (Vec<u64>, Vec<u64>) = engines.iter().map(|engine| (engine.watts, engine.fuel)).unzip();
+    let numbered = (1..).zip(&engines);
+    let mut spans: Vec<[u64; 3]> = numbered.flat_map(|(i, engine)| engine.spans.iter().map(move |(from, to)| [i, *from, *to])).collect();
+    if random.percent(50) {
+        random.shuffle(&mut spans);
+    }
     let (energies, limits): (Vec<u64>, Vec<u64>) = demands.into_iter().unzip();
     let (table, spare) = (energies.len() * watts.len(), watts.len());
-    Call { mode: u64::from(shortest), minutes, allowance, watts, fuels, energies, limits, table, spare }
+    Call { mode: u64::from(shortest), minutes, allowance, watts, fuels, energies, limits, quiet: spans.concat(), table, spare }
 }
 
 impl Call {
@@ -85,6 +91,41 @@ impl Call {
         }
     }
 
+    /// Another number in a span, or a span more, at any place; or a number too few or too many in the list. A list without spans mostly stays so.
+    fn damage_quiet(&mut self, random: &mut Random) {
+        let spans = self.quiet.len() / 3;
+        if spans == 0 && random.percent(90) {
+            return;
+        }
+        let at = 3 * random.place(spans.max(1));
+        let mut span = match self.quiet.get(at..at + 3) {
+            Some(three) => [three[0], three[1], three[2]],
+            None => [1, 0, 1],
+        };
+        if random.percent(70) {
+            let (from, to) = damaged_span(random, (span[1], span[2]));
+            span = [span[0], from, to];
+        }
+        if random.percent(35) {
+            let engines = self.watts.len() as u64;
+            span[0] = random.pick(&[0, 0, engines, engines + 1, engines + 1, 13, 1 << 32, (1 << 32) + 1, u64::MAX]);
+        }
+        if random.percent(15) {
+            span[random.between(1, 2) as usize] = random.pick(&[WEEK, WEEK + 1, 1 << 32, (1 << 32) + 1, u64::MAX - 1, u64::MAX]);
+        }
+        match random.below(10) {
+            0..=3 if spans > 0 => self.quiet[at..at + 3].copy_from_slice(&span),
+            0..=6 => { let place = 3 * random.place(spans + 1); self.quiet.splice(place..place, span); }
+            7 | 8 => {
+                let engine = if random.percent(90) { random.between(1, self.watts.len().max(1) as u64) } else { span[0] };
+                self.quiet = self.quiet.chunks(3).filter(|three| three[0] != engine).flatten().cloned().collect();
+                self.quiet.extend(many_spans(random).into_iter().flat_map(|(from, to)| [engine, from, to]));
+            }
+            _ if random.percent(50) => { self.quiet.pop(); }
+            _ => self.quiet.extend_from_slice(&span[..random.between(1, 2) as usize]),
+        }
+    }
+
     fn damage(&mut self, random: &mut Random) {
         match random.below(10) {
             0 | 1 => self.damage_heading(random),
@@ -97,14 +138,26 @@ impl Call {
 
     fn numbers(&self) -> Numbers<'_> {
         let Call { mode, minutes, allowance, .. } = *self;
-        Numbers { mode, minutes, allowance, watts: &self.watts, fuels: &self.fuels, energies: &self.energies, limits: &self.limits }
+        let Call { watts, fuels, energies, limits, quiet, .. } = self;
+        Numbers { mode, minutes, allowance, watts, fuels, energies, limits, quiet }
+    }
+
+    /// The spans of a call that is accepted.
+    fn spans(&self) -> Vec<Span> {
+        self.quiet.chunks(3).map(|three| Span { engine: three[0] - 1, from: three[1], to: three[2] }).collect()
     }
 }
 
 /// One call to both; an account of the difference where there is one.
 pub fn compare(random: &mut Random, counts: &mut Counts) -> Result<(), String> {
     let mut call = accepted(random);
-    if random.percent(50) {
+    let kind = random.below(100);
+    if kind < 25 {
+        for _ in 0..random.pick(&[1, 1, 1, 2]) {
+            call.damage_quiet(random);
+        }
+    }
+    if (20..60).contains(&kind) {
         for _ in 0..random.pick(&[1, 1, 1, 2, 3]) {
             call.damage(random);
         }
@@ -119,6 +172,9 @@ pub fn compare(random: &mut Random, counts: &mut Counts) -> Result<(), String> {
     let expected = run(&mut theirs, reference::allocate);
     if proved == expected && ours == theirs {
         counts.add_answer(expected, call.mode == 1);
+        if let Answer::Answered { .. } = expected {
+            counts.add_spans(expected, call.mode == 1, &call.spans());
+        }
         if call.mode > 1 {
             counts.add(match expected {
                 Answer::Refused { number: 6, .. } => "no mode, refused 6".into(),

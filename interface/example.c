@@ -1,4 +1,5 @@
-/* Document 01's example planned by file and on numbers, as many deliveries as there may be, a lookup of spare, and calls turned down. */
+/* Document 01's example planned by file and on numbers, the same with quiet hours, as many deliveries as there may be, a lookup of spare, and
+ * calls turned down. */
 #include <stdio.h>
 #include "fothwen.h"
 
@@ -50,14 +51,51 @@ static const uint64_t energies[] = {5000, 3000}, limits[] = {2, 2};
 static void on_numbers(void) {
     uint64_t table[4] = {0}, spare[2] = {0};
 
-    show("on numbers", fothwen_allocate(FOTHWEN_FIXED, 60, 100, watts, 2, fuels, 2, energies, 2, limits, 2, table, 4, spare, 2));
+    show("on numbers", fothwen_allocate(FOTHWEN_FIXED, 60, 100, watts, 2, fuels, 2, energies, 2, limits, 2, NULL, 0, table, 4, spare, 2));
     printf("pieces %d %d, %d %d\n", (int)table[0], (int)table[1], (int)table[2], (int)table[3]);
-    show("shortest", fothwen_allocate(FOTHWEN_SHORTEST, 120, 100, watts, 2, fuels, 2, energies, 2, limits, 2, table, 4, spare, 2));
-    show("no deliveries", fothwen_allocate(FOTHWEN_SHORTEST, 120, 0, watts, 2, fuels, 2, NULL, 0, NULL, 0, NULL, 0, spare, 2));
-    show("a third mode", fothwen_allocate(2, 60, 100, watts, 2, fuels, 2, energies, 2, limits, 2, table, 4, spare, 2));
-    show("a third mode, a table of 3", fothwen_allocate(2, 60, 100, watts, 2, fuels, 2, energies, 2, limits, 2, table, 3, spare, 2));
-    show("a spare list of 1", fothwen_allocate(FOTHWEN_FIXED, 60, 100, watts, 2, fuels, 2, energies, 2, limits, 2, table, 4, spare, 1));
-    show("a fuel missing", fothwen_allocate(FOTHWEN_FIXED, 60, 100, watts, 2, fuels, 1, energies, 2, limits, 2, table, 4, spare, 2));
+    show("shortest", fothwen_allocate(FOTHWEN_SHORTEST, 120, 100, watts, 2, fuels, 2, energies, 2, limits, 2, NULL, 0, table, 4, spare, 2));
+    show("no deliveries", fothwen_allocate(FOTHWEN_SHORTEST, 120, 0, watts, 2, fuels, 2, NULL, 0, NULL, 0, NULL, 0, NULL, 0, spare, 2));
+    show("a third mode", fothwen_allocate(2, 60, 100, watts, 2, fuels, 2, energies, 2, limits, 2, NULL, 0, table, 4, spare, 2));
+    show("a third mode, a table of 3", fothwen_allocate(2, 60, 100, watts, 2, fuels, 2, energies, 2, limits, 2, NULL, 0, table, 3, spare, 2));
+    show("a spare list of 1", fothwen_allocate(FOTHWEN_FIXED, 60, 100, watts, 2, fuels, 2, energies, 2, limits, 2, NULL, 0, table, 4, spare, 1));
+    show("a fuel missing", fothwen_allocate(FOTHWEN_FIXED, 60, 100, watts, 2, fuels, 1, energies, 2, limits, 2, NULL, 0, table, 4, spare, 2));
+}
+
+static fothwen_plan_reply with_spans(const uint64_t *quiet, size_t length) {
+    uint64_t table[4] = {0}, spare[2] = {0};
+
+    return fothwen_allocate(FOTHWEN_SHORTEST, 120, 100, watts, 2, fuels, 2, energies, 2, limits, 2, quiet, length, table, 4, spare, 2);
+}
+
+/* E2 stands still from minute 10 to before minute 34. Before minute 75 it runs for 51 minutes and gives 4250 Wh, E1 3750; before minute 74 they
+ * have 7866 of the 8000. */
+static void quiet_hours(void) {
+    static const char file[] =
+        "plan,shortest,120,100\r\n"
+        "engine,E1,3000,1000000000\r\n"
+        "engine,E2,5000,1000000000\r\n"
+        "quiet,E2,10,34\r\n"
+        "delivery,D1,5000,2\r\n"
+        "delivery,D2,3000,2\r\n"
+        "quiet,E2,33,50\r\n";
+    const uint8_t *bytes = (const uint8_t *)file;
+    const size_t whole = sizeof file - 1, sound = whole - (sizeof "quiet,E2,33,50\r\n" - 1);
+    static const uint64_t span[] = {2, 10, 34}, touching[] = {2, 20, 34, 2, 10, 20}, overlapping[] = {2, 10, 34, 2, 33, 50};
+    static const uint64_t nobody[] = {3, 10, 34}, late[] = {3, 10, 10081};
+    uint64_t table[FOTHWEN_FILE_TABLE] = {0}, spare[FOTHWEN_FILE_SPARE] = {0};
+    uint8_t output[FOTHWEN_LONGEST_PRINT];
+    fothwen_plan_reply reply;
+
+    reply = fothwen_plan_file(bytes, sound, table, FOTHWEN_FILE_TABLE, spare, FOTHWEN_FILE_SPARE, output, sizeof output);
+    show("quiet hours by file", reply);
+    fwrite(output, 1, reply.length, stdout);
+    show("a span that overlaps", fothwen_plan_file(bytes, whole, table, FOTHWEN_FILE_TABLE, spare, FOTHWEN_FILE_SPARE, output, sizeof output));
+    show("quiet hours on numbers", with_spans(span, 3));
+    show("in two that touch", with_spans(touching, 6));
+    show("a span that overlaps", with_spans(overlapping, 6));
+    show("of no engine", with_spans(nobody, 3));
+    show("of no engine, TO too large", with_spans(late, 3));
+    show("TO missing", with_spans(span, 2));
 }
 
 /* An engine and deliveries of 1 Wh, on numbers and in a file: 37 are planned, and one more is refused. */
@@ -76,7 +114,8 @@ static void crowds(void) {
         if (count < 37)
             continue;
         printf("%d deliveries\n", (int)count);
-        show("on numbers", fothwen_allocate(FOTHWEN_FIXED, 60, 100, capacity, 1, capacity, 1, ones, count, ones, count, table, count, spare, 1));
+        show("on numbers", fothwen_allocate(FOTHWEN_FIXED, 60, 100, capacity, 1, capacity, 1, ones, count, ones, count, NULL, 0,
+            table, count, spare, 1));
         show("by file", fothwen_plan_file((const uint8_t *)file, size, table, FOTHWEN_FILE_TABLE, spare, FOTHWEN_FILE_SPARE, output, sizeof output));
     }
 }
@@ -85,7 +124,7 @@ static void crowds(void) {
 static void lookups(void) {
     uint64_t table[4] = {0}, spare[2] = {0};
 
-    show("in 75 minutes", fothwen_allocate(FOTHWEN_FIXED, 75, 100, watts, 2, fuels, 2, energies, 2, limits, 2, table, 4, spare, 2));
+    show("in 75 minutes", fothwen_allocate(FOTHWEN_FIXED, 75, 100, watts, 2, fuels, 2, energies, 2, limits, 2, NULL, 0, table, 4, spare, 2));
     printf("spare %d %d\n", (int)spare[0], (int)spare[1]);
     show_lookup(2000, fothwen_spare_lookup(spare, 2, 2000));
     show_lookup(2001, fothwen_spare_lookup(spare, 2, 2001));
@@ -96,6 +135,7 @@ static void lookups(void) {
 int main(void) {
     by_file();
     on_numbers();
+    quiet_hours();
     crowds();
     lookups();
     return 0;

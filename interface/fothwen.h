@@ -2,7 +2,7 @@
  *
  * A list is a pointer and then its length in elements. For an empty list the pointer may be NULL and is never followed; any other points to
  * that many elements. A list that is written (no `const`) overlaps no other list of its call. Nothing else is asked of a caller: a call that
- * breaks a rule of document 01 is refused by its number and place, and then nothing lent changes. No call keeps a pointer, uses the heap or
+ * breaks a rule of documents 01 and 02 is refused by its number and place, and then nothing lent changes. No call keeps a pointer, uses the heap or
  * any state of its own, so calls may run at once on several threads. Give a thread 128 KiB of stack: docs/BENCHMARKS.md has what the deepest
  * search that is known took. */
 #ifndef FOTHWEN_H
@@ -30,7 +30,7 @@ typedef struct {
     uint64_t minutes; /* of an answer: under FOTHWEN_SHORTEST and found, the shortest time */
     uint64_t tries;   /* of an answer */
     uint64_t length;  /* of an answer to a file: the bytes of its print */
-    uint64_t number;  /* of a refusal: document 01's number, 1 to 9 */
+    uint64_t number;  /* of a refusal: its number, 1 to 9 of document 01, 10 and 11 of document 02's K1 */
     uint64_t place;   /* of a refusal: the record at fault counted from 1, or 0 */
 } fothwen_plan_reply;
 
@@ -44,12 +44,22 @@ typedef struct {
 
 /* The allocation on numbers. Engine i has watts[i] and fuels[i], delivery p energies[p] and limits[p]. Lent are a piece table of deliveries x
  * engines numbers, a row for each delivery, and a spare list of one number for each engine; other lengths are refused by 9. Found writes
- * both, the table 0 where nothing is drawn; none, stopped and refused keep them. Refused by 3, 8, 7, 9, then 6 over mode, minutes, allowance,
- * engines and deliveries; its place for 6 is 1 for mode, minutes and allowance, then counts engines and deliveries on; else 0. */
+ * both, the table 0 where nothing is drawn; none, stopped and refused keep them.
+ *
+ * quiet has three numbers for each span of minutes in which an engine stands still: the engine counted from 1, FROM and TO. Minutes count
+ * from the plan's start, FROM included and TO excluded, 0 to 10,080; a span may lie beyond the plan's minutes. An engine has at most eight,
+ * in any order and mixed with other engines'; two of them may touch but not overlap. An engine's capacity for T minutes counts those before
+ * T that are in none of its spans. Without quiet hours the list is empty: NULL and 0.
+ *
+ * Refused by 3 (paired lists that differ in length, a quiet list whose length is no multiple of three), 8, 7, 9, then 6 over mode, minutes,
+ * allowance, engines and deliveries; its place for 6 is 1 for mode, minutes and allowance, then counts engines and deliveries on; else 0. The
+ * spans are checked last, one after the other: 6 for FROM or TO above 10,080, 10 for an engine that the plan does not have, 11 where FROM is
+ * not below TO, where the span overlaps an earlier one of its engine or is its ninth; all at place 0. */
 fothwen_plan_reply fothwen_allocate(
     uint64_t mode, uint64_t minutes, uint64_t allowance,
     const uint64_t *watts, size_t watts_length, const uint64_t *fuels, size_t fuels_length,
     const uint64_t *energies, size_t energies_length, const uint64_t *limits, size_t limits_length,
+    const uint64_t *quiet, size_t quiet_length,
     uint64_t *table, size_t table_length, uint64_t *spare, size_t spare_length);
 
 /* The call with a file of up to 32,768 bytes. Lent are a piece table of FOTHWEN_FILE_TABLE numbers, a spare list of FOTHWEN_FILE_SPARE and an

@@ -1,12 +1,12 @@
 //! The proved planner for Rust: safe functions over the static library that `rt staticlib export` makes. Contracts: crates/export/src/lib.rt.
 //!
-//! Nothing is asked of a caller. A call that breaks a rule of document 01, lists and tables of a wrong length included, is refused by its
-//! number and place, and then nothing lent changes.
+//! Nothing is asked of a caller. A call that breaks a rule of documents 01 and 02, lists and tables of a wrong length included, is refused by
+//! its number and place, and then nothing lent changes.
 //!
 //! ```
 //! let plan = fothwen::Plan {
 //!     mode: fothwen::FIXED, minutes: 60, allowance: 100,
-//!     watts: &[3000, 5000], fuels: &[1_000_000_000; 2], energies: &[5000, 3000], limits: &[2, 2],
+//!     watts: &[3000, 5000], fuels: &[1_000_000_000; 2], energies: &[5000, 3000], limits: &[2, 2], quiet: &[],
 //! };
 //! let (mut table, mut spare) = ([0; 4], [0; 2]);
 //! let answer = fothwen::allocate(&plan, &mut table, &mut spare).unwrap();
@@ -16,6 +16,17 @@
 //! assert_eq!(fothwen::allocate(&fothwen::Plan { mode: 2, ..plan }, &mut table, &mut spare), Err(fothwen::Refusal { number: 6, place: 1 }));
 //! let crowd = fothwen::Plan { energies: &[1; 38], limits: &[1; 38], ..plan };
 //! assert_eq!(fothwen::allocate(&crowd, &mut [0; 76], &mut spare), Err(fothwen::Refusal { number: 7, place: 0 }));
+//!
+//! // The second engine stands still from minute 10 to before minute 34. Before minute 75 it runs for 51 minutes and gives 4250 Wh, the first
+//! // one 3750; a minute less is too short.
+//! let quiet = fothwen::Plan { mode: fothwen::SHORTEST, minutes: 120, quiet: &[2, 10, 34], ..plan };
+//! let answer = fothwen::allocate(&quiet, &mut table, &mut spare).unwrap();
+//! assert_eq!((answer.outcome, answer.minutes, answer.tries), (fothwen::Outcome::Found, 75, 2));
+//! assert_eq!(table, [3750, 1250, 0, 3000]);
+//! let nobody = fothwen::Plan { quiet: &[3, 10, 34], ..plan };
+//! assert_eq!(fothwen::allocate(&nobody, &mut table, &mut spare), Err(fothwen::Refusal { number: 10, place: 0 }));
+//! let overlapping = fothwen::Plan { quiet: &[2, 10, 34, 2, 33, 50], ..plan };
+//! assert_eq!(fothwen::allocate(&overlapping, &mut table, &mut spare), Err(fothwen::Refusal { number: 11, place: 0 }));
 //! ```
 
 /// MODE as a number. Any other is refused by 6 at place 1.
@@ -42,14 +53,17 @@ pub struct Answer {
     pub tries: u64,
 }
 
-/// Document 01's number of a refusal, and its place: the record at fault counted from 1, or 0.
+/// A refusal's number in documents 01 and 02, and its place: the record at fault counted from 1, or 0.
 #[derive(Clone, Copy, PartialEq, Eq, Debug)]
 pub struct Refusal {
     pub number: u64,
     pub place: u64,
 }
 
-/// A plan on numbers. Engine i has `watts[i]` and `fuels[i]`, delivery p `energies[p]` and `limits[p]`.
+/// A plan on numbers. Engine i has `watts[i]` and `fuels[i]`, delivery p `energies[p]` and `limits[p]`. Each three numbers of `quiet` are a span
+/// of minutes in which an engine stands still: the engine counted from 1, FROM included and TO excluded, 0 to 10,080, at most eight spans an
+/// engine. They are checked last, one after the other, by 6 (FROM, TO), 10 (no such engine) and 11 (FROM not below TO, an overlap with an
+/// earlier span of the engine, a ninth one), all at place 0; a length that is no multiple of three is 3.
 #[derive(Clone, Copy, Debug)]
 pub struct Plan<'a> {
     pub mode: u64,
@@ -59,6 +73,7 @@ pub struct Plan<'a> {
     pub fuels: &'a [u64],
     pub energies: &'a [u64],
     pub limits: &'a [u64],
+    pub quiet: &'a [u64],
 }
 
 // What crosses from the library, as crates/export/src/lib.rt has it.
@@ -86,6 +101,7 @@ extern "C" {
         mode: u64, minutes: u64, allowance: u64,
         watts: *const u64, watts_length: usize, fuels: *const u64, fuels_length: usize,
         energies: *const u64, energies_length: usize, limits: *const u64, limits_length: usize,
+        quiet: *const u64, quiet_length: usize,
         table: *mut u64, table_length: usize, spare: *mut u64, spare_length: usize,
     ) -> PlanReply;
 
@@ -124,6 +140,7 @@ pub fn allocate(plan: &Plan, table: &mut [u64], spare: &mut [u64]) -> Result<Ans
             plan.mode, plan.minutes, plan.allowance,
             plan.watts.as_ptr(), plan.watts.len(), plan.fuels.as_ptr(), plan.fuels.len(),
             plan.energies.as_ptr(), plan.energies.len(), plan.limits.as_ptr(), plan.limits.len(),
+            plan.quiet.as_ptr(), plan.quiet.len(),
             table.as_mut_ptr(), table.len(), spare.as_mut_ptr(), spare.len(),
         )
     };

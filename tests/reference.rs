@@ -7,6 +7,10 @@ const ENGINES: usize = 12;
 pub const DELIVERIES: usize = 37;
 pub const TABLE_NUMBERS: usize = ENGINES * DELIVERIES;
 pub const SPARE_NUMBERS: usize = ENGINES;
+/// The last minute that MINUTES, FROM and TO may name.
+const WEEK: u64 = 10_080;
+/// K1: "at most eight spans an engine".
+const SPANS: usize = 8;
 /// No print is longer: an answer's line, and for every piece a line with two names of 16 quotes each.
 pub const PRINT_BYTES: usize = 40 + TABLE_NUMBERS * 88;
 
@@ -54,6 +58,8 @@ pub struct Numbers<'a> {
     pub fuels: &'a [u64],
     pub energies: &'a [u64],
     pub limits: &'a [u64],
+    /// K1's further list: engine counted from 1, FROM and TO of one span after the other.
+    pub quiet: &'a [u64],
 }
 
 /// The allocation on numbers.
@@ -72,16 +78,22 @@ pub fn allocate(numbers: &Numbers, table: &mut [u64], spare: &mut [u64]) -> Answ
     plan.deliveries = numbers.energies.len();
     plan.energies[..plan.deliveries].copy_from_slice(numbers.energies);
     plan.limits[..plan.deliveries].copy_from_slice(numbers.limits);
+    plan.quiet = numbers.spans();
     let search = solve(&plan);
     search.write(table, spare);
     Answer::Answered { word: search.word, minutes: search.minutes, tries: search.tries, length: 0 }
 }
 
 impl Numbers<'_> {
-    /// 3, 8, 7, 9, then 6 over the plan's record, the engines' and the deliveries'; MODE stands in the plan's.
+    fn spans(&self) -> Vec<Span> {
+        // An engine of 0 is none of the plan's, and neither is the largest number.
+        self.quiet.chunks(3).map(|three| Span { engine: three[0].wrapping_sub(1), from: three[1], to: three[2] }).collect()
+    }
+
+    /// 3, 8, 7, 9, then 6 over the plan's record, the engines' and the deliveries', then the spans; MODE stands in the plan's record.
     fn refusal(&self, table: usize, spare: usize) -> Option<(u64, u64)> {
         let (engines, deliveries) = (self.watts.len(), self.energies.len());
-        if self.fuels.len() != engines || self.limits.len() != deliveries {
+        if self.fuels.len() != engines || self.limits.len() != deliveries || self.quiet.len() % 3 != 0 {
             return Some((3, 0));
         }
         if engines == 0 {
@@ -93,11 +105,23 @@ impl Numbers<'_> {
         if table != deliveries * engines || spare != engines {
             return Some((9, 0));
         }
-        let plan = self.mode <= 1 && (1..=10_080).contains(&self.minutes) && self.allowance <= 1_000_000_000;
+        let plan = self.mode <= 1 && (1..=WEEK).contains(&self.minutes) && self.allowance <= 1_000_000_000;
         let engine = |i: usize| self.watts[i] <= 5_000_000 && self.fuels[i] <= 1_000_000_000;
         let delivery = |p: usize| (1..=1_000_000_000).contains(&self.energies[p]) && (1..=12).contains(&self.limits[p]);
         let sound = std::iter::once(plan).chain((0..engines).map(engine)).chain((0..deliveries).map(delivery));
-        sound.zip(1..).find(|(sound, _)| !sound).map(|(_, record)| (6, record))
+        let fault = sound.zip(1..).find(|(sound, _)| !sound).map(|(_, record)| (6, record));
+        fault.or_else(|| self.span_refusal().map(|number| (number, 0)))
+    }
+
+    /// K1: "checked last, span by span, by 6 (FROM, TO), 10 (no such engine), 11, place 0".
+    fn span_refusal(&self) -> Option<u64> {
+        let spans = self.spans();
+        (0..spans.len()).find_map(|k| match &spans[k] {
+            span if span.from > WEEK || span.to > WEEK => Some(6),
+            span if span.engine >= self.watts.len() as u64 => Some(10),
+            span if !span.may_follow(&spans[..k]) => Some(11),
+            _ => None,
+        })
     }
 }
 
@@ -144,6 +168,19 @@ pub fn program_print(input: &[u8]) -> Vec<u8> {
 /// A name's bytes, and zeros behind them: a name holds no zero, so equal names are equal arrays.
 type Name = [u8; 16];
 
+/// Minutes in which an engine stands still, FROM included and TO excluded. Engines are counted from 0.
+#[derive(Clone, Copy, Debug)]
+pub struct Span { pub engine: u64, pub from: u64, pub to: u64 }
+
+impl Span {
+    /// K1's 11 does not speak against it: FROM is below TO, no earlier span of its engine has a minute of it, and it is not the ninth.
+    fn may_follow(&self, earlier: &[Span]) -> bool {
+        let own = || earlier.iter().filter(|span| span.engine == self.engine);
+        let overlaps = |span: &Span| span.from < self.to && self.from < span.to;
+        self.from < self.to && !own().any(overlaps) && own().count() < SPANS
+    }
+}
+
 struct Plan {
     shortest: bool,
     minutes: u64,
@@ -156,6 +193,7 @@ struct Plan {
     delivery_names: [Name; DELIVERIES],
     energies: [u64; DELIVERIES],
     limits: [u64; DELIVERIES],
+    quiet: Vec<Span>,
 }
 
 /// Four fields are kept, all are counted. A quoted field is kept without its quotes, and a quote in it stays doubled.
@@ -216,12 +254,19 @@ fn read_plan(file: &[u8]) -> Result<Plan, (u64, u64)> {
     if plan.engines == 0 { Err((8, 0)) } else { Ok(plan) }
 }
 
+/// The spans of a file that is accepted.
+#[allow(dead_code)]
+pub fn spans_of(file: &[u8]) -> Vec<Span> {
+    read_plan(file).map_or(Vec::new(), |plan| plan.quiet)
+}
+
 impl Plan {
     fn new() -> Plan {
         Plan {
             shortest: false, minutes: 0, allowance: 0,
             engines: 0, engine_names: [[0; 16]; ENGINES], watts: [0; ENGINES], fuels: [0; ENGINES],
             deliveries: 0, delivery_names: [[0; 16]; DELIVERIES], energies: [0; DELIVERIES], limits: [0; DELIVERIES],
+            quiet: Vec::new(),
         }
     }
 
@@ -236,6 +281,7 @@ impl Plan {
             (b"plan", true) => self.set(fields)?,
             (b"engine", false) => self.add_engine(fields)?,
             (b"delivery", false) => self.add_delivery(fields)?,
+            (b"quiet", false) => self.add_quiet(fields)?,
             _ => return Err(4),
         }
         Ok(record.next)
@@ -247,7 +293,7 @@ impl Plan {
             b"shortest" => true,
             _ => return Err(6),
         };
-        self.minutes = number(minutes, 1, 10_080)?;
+        self.minutes = number(minutes, 1, WEEK)?;
         self.allowance = number(tries, 0, 1_000_000_000)?;
         Ok(())
     }
@@ -257,7 +303,7 @@ impl Plan {
         if i == ENGINES {
             return Err(7);
         }
-        self.engine_names[i] = name(title, &self.engine_names[..i])?;
+        self.engine_names[i] = fresh_name(title, &self.engine_names[..i])?;
         self.watts[i] = number(watts, 0, 5_000_000)?;
         self.fuels[i] = number(fuel, 0, 1_000_000_000)?;
         self.engines += 1;
@@ -269,27 +315,58 @@ impl Plan {
         if p == DELIVERIES {
             return Err(7);
         }
-        self.delivery_names[p] = name(title, &self.delivery_names[..p])?;
+        self.delivery_names[p] = fresh_name(title, &self.delivery_names[..p])?;
         self.energies[p] = number(energy, 1, 1_000_000_000)?;
         self.limits[p] = number(limit, 1, 12)?;
         self.deliveries += 1;
         Ok(())
     }
+
+    /// K1: 10 "in the place of 5, the named engine isn't earlier in the file", then the numbers, and 11 "after all fields". What breaks the
+    /// name rule names nobody.
+    fn add_quiet(&mut self, [title, from, to]: [&[u8]; 3]) -> Result<(), u64> {
+        let named = name(title).and_then(|name| self.engine_names[..self.engines].iter().position(|other| *other == name));
+        let engine = named.ok_or(10u64)? as u64;
+        let span = Span { engine, from: number(from, 0, WEEK)?, to: number(to, 0, WEEK)? };
+        if !span.may_follow(&self.quiet) {
+            return Err(11);
+        }
+        self.quiet.push(span);
+        Ok(())
+    }
+
+    /// K1: "Capacity counts only the minutes before T outside the engine's spans." No two of them overlap, so what each has before T is taken
+    /// off; with debug assertions, as in the random tests, the minutes are counted one by one as well.
+    fn running(&self, engine: usize, minutes: u64) -> u64 {
+        let own = || self.quiet.iter().filter(|span| span.engine == engine as u64);
+        let still: u64 = own().map(|span| span.to.min(minutes) - span.from.min(minutes)).sum();
+        debug_assert_eq!(minutes - still, match own().next() {
+            Some(_) => (0..minutes).filter(|minute| own().all(|span| *minute < span.from || span.to <= *minute)).count() as u64,
+            None => minutes,
+        });
+        minutes - still
+    }
 }
 
-fn name(field: &[u8], used: &[Name]) -> Result<Name, u64> {
+/// A name that the rule allows and that nobody of `used` has.
+fn fresh_name(field: &[u8], used: &[Name]) -> Result<Name, u64> {
+    name(field).filter(|name| !used.contains(name)).ok_or(5)
+}
+
+/// The name that a field gives, or None where it has no byte, more than 16, or one that no name may have.
+fn name(field: &[u8]) -> Option<Name> {
     let mut name = [0; 16];
     let (mut at, mut length) = (0, 0);
     while at < field.len() {
         let byte = field[at];
         if length == name.len() || !(0x20..=0x7E).contains(&byte) {
-            return Err(5);
+            return None;
         }
         name[length] = byte;
         length += 1;
         at += if byte == b'"' { 2 } else { 1 };
     }
-    if length == 0 || used.contains(&name) { Err(5) } else { Ok(name) }
+    if length == 0 { None } else { Some(name) }
 }
 
 fn number(field: &[u8], low: u64, high: u64) -> Result<u64, u64> {
@@ -340,7 +417,7 @@ fn search_for(plan: &Plan, minutes: u64) -> Search {
         remaining: [0; ENGINES], rest: plan.energies, limit: plan.limits, pieces: [[0; ENGINES]; DELIVERIES],
     };
     for i in 0..plan.engines {
-        search.remaining[i] = plan.fuels[i].min(plan.watts[i] * minutes / 60);
+        search.remaining[i] = plan.fuels[i].min(plan.watts[i] * plan.running(i, minutes) / 60);
     }
     if search.rest.iter().sum::<u64>() <= search.remaining.iter().sum() {
         search.word = search.choose();

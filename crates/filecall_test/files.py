@@ -1,7 +1,7 @@
 #!/usr/bin/env python3
 """files.py: write stdin and stdout beside this file: plan files, and what the call with a file has to answer, print and leave.
 
-Reading, refusing and printing are written here from document 01, apart from the proved code; the search and the fields of a record come
+Reading, refusing and printing are written here from documents 01 and 02, apart from the proved code; the search and the fields of a record come
 from the makers of the other two test programs. A refusal's number and record are written by hand beside each file as well.
 """
 import os
@@ -43,18 +43,31 @@ def item(fields, items, most, ranges, record):
     items[name] = numbers
 
 
+def span(fields, engines, spans, record):
+    """adds a quiet span as three numbers, the engine counted from 1; a name against the name rule is no engine's"""
+    if fields[1] not in engines:
+        raise Refused(10, record)
+    numbers = [number(text, 0, plans.WEEK) for text in fields[2:]]
+    if None in numbers:
+        raise Refused(6, record)
+    added = (1 + list(engines).index(fields[1]), *numbers)
+    if plans.span_fault(added, spans):
+        raise Refused(11, record)
+    spans.append(added)
+
+
 def read(file):
-    """the plan of a file: mode, minutes, allowance, engines and deliveries by name"""
+    """the plan of a file: mode, minutes, allowance, engines and deliveries by name, quiet spans"""
     if not 1 <= len(file) <= 32768:
         raise Refused(1, 0)
-    head, engines, deliveries = None, {}, {}
+    head, engines, deliveries, spans = None, {}, {}, []
     for record, text in enumerate(examples.records(file), 1):
         fields = [examples.value(raw) for raw in examples.cut(text, b",")]
         if None in fields:
             raise Refused(2, record)
         if len(fields) != 4:
             raise Refused(3, record)
-        if fields[0] not in ((b"plan",) if record == 1 else (b"engine", b"delivery")):
+        if fields[0] not in ((b"plan",) if record == 1 else (b"engine", b"delivery", b"quiet")):
             raise Refused(4, record)
         if record == 1:
             head = [{b"fixed": 0, b"shortest": 1}.get(fields[1]), number(fields[2], 1, 10080), number(fields[3], 0, MOST)]
@@ -62,11 +75,13 @@ def read(file):
                 raise Refused(6, record)
         elif fields[0] == b"engine":
             item(fields, engines, plans.ENGINES, [(0, 5_000_000), (0, MOST)], record)
+        elif fields[0] == b"quiet":
+            span(fields, engines, spans, record)
         else:
             item(fields, deliveries, plans.DELIVERIES, [(1, MOST), (1, 12)], record)
     if not engines:
         raise Refused(8, 0)
-    return head, engines, deliveries
+    return head, engines, deliveries, spans
 
 
 def quoted(name):
@@ -83,11 +98,11 @@ def printed(word, minutes, tries, engines, deliveries, table):
 
 def call(file, table, spare, output):
     """the word, its two numbers, the print, and what is written to the table and the spare list"""
-    head, engines, deliveries = read(file)
+    head, engines, deliveries, spans = read(file)
     if table != TABLE or spare != SPARE:
         raise Refused(9, 0)
     lists = [[numbers[k] for numbers in items.values()] for items in (engines, deliveries) for k in (0, 1)]
-    word, minutes, tries, cells, left = plans.answer(*head, *lists, len(engines) * len(deliveries), len(engines))
+    word, minutes, tries, cells, left = plans.answer(*head, *lists, plans.flat(spans), len(engines) * len(deliveries), len(engines))
     text = printed(word, minutes, tries, engines, deliveries, cells)
     if len(text) > output:
         raise Refused(9, 0)
@@ -232,6 +247,140 @@ QUOTED = [
 ]
 
 
+# K1: an engine of 60 watts gives 1 Wh for each minute in which it runs
+HOURS = [PLAN, "engine,E1,60,1000"]
+TWO = [*HOURS, "engine,E2,60,1000"]
+SHORTEST = ["plan,shortest,120,9", "engine,E1,60,1000"]
+EIGHT = [f"quiet,E1,{10 * k},{10 * k + 5}" for k in range(8)]
+QUIET_NAMES = ['"a, ""b"""', '"' + '"' * 32 + '"', NAME17[:16], " ", '","', '"E1"', "quiet"]
+# quiet hours in files that are accepted, with document 02's answer
+QUIET = [
+    ("a span at 0", lines(*HOURS, "quiet,E1,0,10", "delivery,D,50,1"), ("found", 60, 1)),
+    ("a span at 0, 1 Wh too much", lines(*HOURS, "quiet,E1,0,10", "delivery,D,51,1"), ("none", 60, 0)),
+    ("a span up to T", lines(*HOURS, "quiet,E1,50,60", "delivery,D,51,1"), ("none", 60, 0)),
+    ("a span from T on", lines(*HOURS, "quiet,E1,60,70", "delivery,D,60,1"), ("found", 60, 1)),
+    ("a span across T", lines(*HOURS, "quiet,E1,55,65", "delivery,D,55,1"), ("found", 60, 1)),
+    ("a span across T, 1 Wh too much", lines(*HOURS, "quiet,E1,55,65", "delivery,D,56,1"), ("none", 60, 0)),
+    ("a span of the week's last minute", lines(*HOURS, "quiet,E1,10079,10080", "delivery,D,60,1"), ("found", 60, 1)),
+    ("two spans that touch", lines(*HOURS, "quiet,E1,10,20", "quiet,E1,20,30", "delivery,D,40,1"), ("found", 60, 1)),
+    ("two spans that touch, the later first", lines(*HOURS, "quiet,E1,20,30", "quiet,E1,10,20", "delivery,D,41,1"), ("none", 60, 0)),
+    ("eight spans, two beyond MINUTES", lines(*HOURS, *EIGHT, "delivery,D,30,1"), ("found", 60, 1)),
+    ("eight spans, 1 Wh too much", lines(*HOURS, *EIGHT, "delivery,D,31,1"), ("none", 60, 0)),
+    ("spans behind the deliveries", lines(*HOURS, "delivery,D,50,1", "quiet,E1,5,10", "quiet,E1,0,5"), ("found", 60, 1)),
+    ("the last record a span, without CR LF", lines(*HOURS, "delivery,D,50,1", "quiet,E1,0,10")[:-2], ("found", 60, 1)),
+    ("spans before another engine", lines(*HOURS, "quiet,E1,0,60", "engine,E2,60,1000", "quiet,E2,0,10", "delivery,D,50,1"), ("found", 60, 1)),
+    ("a span of another engine between two", lines(*TWO, "quiet,E1,0,9", "quiet,E2,5,20", "quiet,E1,9,20", "delivery,D,45,1"), ("found", 60, 1)),
+    ("an engine quiet throughout is closed", lines(*TWO, "quiet,E1,0,60", "delivery,D,60,2"), ("found", 60, 0)),
+    ("every engine quiet throughout", lines(*TWO, "quiet,E1,0,60", "quiet,E2,0,60", "delivery,D,1,1"), ("none", 60, 0)),
+    ("every engine quiet throughout, no deliveries", lines(*TWO, "quiet,E1,0,60", "quiet,E2,0,60"), ("found", 60, 0)),
+    ("every field in quotes", lines(*HOURS, '"quiet","E1","0","10"', "delivery,D,50,1"), ("found", 60, 1)),
+    ("an engine that has a delivery's name", lines(PLAN, "delivery,X,60,1", "engine,Y,60,60", "engine,X,60,60", "quiet,X,0,10"), ("found", 60, 1)),
+    ("names that differ in case", lines(PLAN, "engine,e1,60,60", "engine,E1,60,60", "quiet,E1,0,60", "delivery,D,60,2"), ("found", 60, 0)),
+    ("12 engines, 37 deliveries, 96 spans", lines(
+        "plan,fixed,60,37", *(f"engine,N{n},60,60" for n in range(1, 13)), *DELIVERIES37,
+        *(f"quiet,N{n},{7 * k},{7 * k + 7}" for k in range(8) for n in range(1, 13))), ("found", 60, 37)),
+    ("shortest, as printed in 75 minutes", lines(b"plan,shortest,120,100", *EXAMPLE.split(b"\r\n")[1:-1], "quiet,E2,10,34"), ("found", 75, 2)),
+    ("shortest, the least minute just behind a span", lines(*SHORTEST, "quiet,E1,10,40", "delivery,D,11,1"), ("found", 41, 1)),
+    ("shortest, the least minute just before a span", lines(*SHORTEST, "quiet,E1,10,40", "delivery,D,10,1"), ("found", 10, 1)),
+    ("shortest, a span at 0", lines(*SHORTEST, "quiet,E1,0,119", "delivery,D,1,1"), ("found", 120, 1)),
+    ("shortest, none for a span throughout", lines(*SHORTEST, "quiet,E1,0,120", "delivery,D,1,1"), ("none", 120, 0)),
+    ("shortest, in one engine's span while another runs", lines(
+        *SHORTEST, "engine,E2,60,1000", "quiet,E1,10,40", "delivery,D,25,1", "delivery,F,10,1"), ("found", 25, 2)),
+    ("shortest, stopped at a shorter time", lines("plan,shortest,120,1", *EXAMPLE.split(b"\r\n")[1:-1], "quiet,E2,10,34"), ("stopped", 90, 1)),
+]
+# quiet records turned down, each by one fault
+QUIET_REFUSALS = [
+    ("a span of three fields", lines(*HOURS, "quiet,E1,5"), (3, 3)),
+    ("a span of five fields", lines(*HOURS, "quiet,E1,0,5,"), (3, 3)),
+    ("a span as record 1", lines("quiet,E1,0,5"), (4, 1)),
+    ("quiet with a capital", lines(*HOURS, "Quiet,E1,0,5"), (4, 3)),
+    ("quiet with a space behind it", lines(*HOURS, "quiet ,E1,0,5"), (4, 3)),
+    ("no engine of the name", lines(*HOURS, "quiet,E2,0,5"), (10, 3)),
+    ("the engine comes later", lines(PLAN, "quiet,E1,0,5", ENGINE), (10, 2)),
+    ("the engine comes later, behind another one", lines(*HOURS, "quiet,E1,0,5", "quiet,E2,0,5", "engine,E2,5,5"), (10, 4)),
+    ("a delivery's name", lines(*HOURS, "delivery,D,1,1", "quiet,D,0,5"), (10, 4)),
+    ("another case", lines(*HOURS, "quiet,e1,0,5"), (10, 3)),
+    ("the beginning of a name", lines(*HOURS, "quiet,E,0,5"), (10, 3)),
+    ("a name and a space", lines(*HOURS, "quiet,E1 ,0,5"), (10, 3)),
+    ("the number of an engine", lines(*HOURS, "quiet,1,0,5"), (10, 3)),
+    ("no name", lines(*HOURS, "quiet,,0,5"), (10, 3)),
+    ("no name in quotes", lines(*HOURS, 'quiet,"",0,5'), (10, 3)),
+    ("a name of 17 bytes", lines(*HOURS, f"quiet,{NAME17},0,5"), (10, 3)),
+    ("a name of 17 bytes, 16 of them an engine's", lines(PLAN, f"engine,{NAME17[:16]},5,5", f"quiet,{NAME17},0,5"), (10, 3)),
+    ("CR LF in a name", lines(*HOURS, 'quiet,"E1\r\n",0,5'), (10, 3)),
+    ("a quote too many in a name", lines(PLAN, 'engine,"a""",5,5', 'quiet,"a""""",0,5'), (10, 3)),
+    ("FROM is TO", lines(*HOURS, "quiet,E1,5,5"), (11, 3)),
+    ("FROM and TO 0", lines(*HOURS, "quiet,E1,0,0"), (11, 3)),
+    ("FROM 10080", lines(*HOURS, "quiet,E1,10080,10080"), (11, 3)),
+    ("FROM above TO", lines(*HOURS, "quiet,E1,10,9"), (11, 3)),
+    ("the same span twice", lines(*HOURS, "quiet,E1,5,9", "quiet,E1,5,9"), (11, 4)),
+    ("a minute in common, the later behind", lines(*HOURS, "quiet,E1,5,9", "quiet,E1,8,12"), (11, 4)),
+    ("a minute in common, the later before", lines(*HOURS, "quiet,E1,5,9", "quiet,E1,2,6"), (11, 4)),
+    ("a span in an earlier one", lines(*HOURS, "quiet,E1,5,9", "quiet,E1,6,8"), (11, 4)),
+    ("an earlier span in it", lines(*HOURS, "quiet,E1,5,9", "quiet,E1,4,10"), (11, 4)),
+    ("an overlap beyond MINUTES", lines(*HOURS, "quiet,E1,5000,9000", "delivery,D,1,1", "quiet,E1,8999,10080"), (11, 5)),
+    ("an overlap by the name in quotes", lines(*HOURS, "quiet,E1,5,9", 'quiet,"E1",8,12'), (11, 4)),
+    ("an overlap of the second engine", lines(*TWO, "quiet,E1,5,9", "quiet,E2,5,9", "quiet,E2,8,12"), (11, 6)),
+    ("a ninth span", lines(*HOURS, *EIGHT, "quiet,E1,80,85"), (11, 11)),
+    ("a ninth span, other records between", lines(*TWO, *EIGHT, "quiet,E2,0,5", "delivery,D,1,1", "quiet,E1,80,85"), (11, 14)),
+    ("13 engine records, spans between", lines(PLAN, *(r for n in range(1, 14) for r in (f"engine,N{n},5,5", f"quiet,N{n},0,5"))), (7, 26)),
+]
+QUIET_NUMBERS = [
+    ("FROM", "quiet,E1,%s,10080", ["", "00", "05", "-1", "x", " 5", "10081", "65536", "4294967296", "18446744073709551616"]),
+    ("TO", "quiet,E1,0,%s", ["", "01", "10081", "+5", "5 ", "1e3", '"5""0"', "65541", "4294967301", "18446744073709551621"]),
+]
+# two faults at once: in a quiet record 2, 3, 4, 10, 6 for FROM and TO, 11; of two records the first
+QUIET_ORDER = [
+    ("2 before 10", lines(*HOURS, 'quiet,"X"y,0,5'), (2, 3)),
+    ("2 before 6 and 11", lines(*HOURS, 'quiet,E1,x,"5'), (2, 3)),
+    ("3 before 10 and 6", lines(*HOURS, "quiet,X,x"), (3, 3)),
+    ("3 before 4, a span as record 1", lines("quiet,E1,0"), (3, 1)),
+    ("4 before 10 and 6, a span as record 1", lines("quiet,X,x,5", PLAN, ENGINE), (4, 1)),
+    ("10 before 6, FROM", lines(*HOURS, "quiet,X,y,5"), (10, 3)),
+    ("10 before 6, TO", lines(*HOURS, "quiet,,0,10081"), (10, 3)),
+    ("10 before 11, FROM is TO", lines(*HOURS, "quiet,X,5,5"), (10, 3)),
+    ("10 before 11, twice the same span", lines(*HOURS, "quiet,X,0,5", "quiet,X,0,5"), (10, 3)),
+    ("10 before 11, a ninth", lines(*HOURS, *EIGHT, "quiet,e1,80,85"), (10, 11)),
+    ("6 before 11, FROM above a TO of other form", lines(*HOURS, "quiet,E1,9,05"), (6, 3)),
+    ("6 before 11, FROM and TO 10081", lines(*HOURS, "quiet,E1,10081,10081"), (6, 3)),
+    ("6 before 11, an overlap", lines(*HOURS, "quiet,E1,0,5", "quiet,E1,4,10081"), (6, 4)),
+    ("6 before 11, a ninth", lines(*HOURS, *EIGHT, "quiet,E1,080,85"), (6, 11)),
+    ("first record, 11 before a later 10", lines(*HOURS, "quiet,E1,5,5", "quiet,X,0,5"), (11, 3)),
+    ("first record, 11 before a later 2", lines(*HOURS, "quiet,E1,5,5", 'quiet,"'), (11, 3)),
+    ("first record, 10 before a later 11", lines(*HOURS, "quiet,X,0,5", "quiet,E1,5,5"), (10, 3)),
+    ("first record, 10 before a later 6", lines(*HOURS, "quiet,X,0,5", "engine,E2,x,5"), (10, 3)),
+    ("first record, 10 before a later 5", lines(*HOURS, "quiet,E2,0,5", ENGINE), (10, 3)),
+    ("first record, 5 before a later 10", lines(*HOURS, ENGINE, "quiet,X,0,5"), (5, 3)),
+    ("first record, 6 before a later 10 of that engine", lines(PLAN, "engine,E1,x,5", "quiet,E1,0,5"), (6, 2)),
+    ("first record, 7 before the span of a 13th engine", lines(PLAN, *ENGINES13, "quiet,N13,0,5"), (7, 14)),
+    ("10 before 8", lines(PLAN, "quiet,E1,0,5"), (10, 2)),
+]
+
+
+def quiet():
+    """K1's sentences and document 02's open matters about them"""
+    for title, file, told in QUIET:
+        case("quiet, " + title, file, told)
+    for name in QUIET_NAMES:
+        file = lines(PLAN, "engine,E,60,1000", f"engine,{name},60,1000", f"quiet,{name},0,59", "delivery,D,61,2")
+        case(f"quiet, the name {name}", file, ("found", 60, 2))
+    case("quiet, E1 written in quotes by its engine", lines(PLAN, 'engine,"E1",60,1000', "quiet,E1,0,59", "delivery,D,2,1"), ("none", 60, 0))
+    for title, file, told in QUIET_REFUSALS:
+        case(f"turned down by {told[0]}, {title}", file, told)
+    for name, record, texts in QUIET_NUMBERS:
+        for text in texts:
+            case(f"turned down by 6, {name} [{text}]", lines(*HOURS, record % text), (6, 3))
+    for title, file, told in QUIET_ORDER:
+        case("order, " + title, file, told)
+    spans = lines(*HOURS, "quiet,E1,0,10", "delivery,D,50,1")
+    case("turned down by 9, quiet hours and a table of 443", spans, (9, 0), 443)
+    case("turned down by 9, quiet hours and an output a byte short", spans, (9, 0), output=28)
+    case("an output that just fits, quiet hours", spans, ("found", 60, 1), output=29)
+    case("order, 10 before 9", lines(*HOURS, "quiet,X,0,5"), (10, 3), 0, 0, 0)
+    case("order, 11 before 9", lines(*HOURS, "quiet,E1,5,5"), (11, 3), 0, 0, 0)
+    case("32,768 bytes, digits of TO to the end", lines(*HOURS) + b"quiet,E1,5,", (6, 3), size=32768, pad=b"1")
+
+
 def refusals():
     for title, file, told in ROWS:
         case(f"turned down by {told[0]}, {title}", file, told)
@@ -337,6 +486,7 @@ def main():
     refusals()
     sizes()
     lent()
+    quiet()
     with open(os.path.join(HERE, "stdin"), "wb") as f:
         for title, file, told, table, spare, output, size, pad in CASES:
             head = b"%d %d %d %d %d %d:" % (len(title.encode()), len(file), table, spare, output, size)

@@ -2,5 +2,6 @@
 pub mod Bisection
 pub mod Calls
 pub mod Modes
+pub mod Running
 pub mod Searches
 pub mod Spares

@@ -1,3 +1,4 @@
 -- The allocation: what its inner functions return and leave, and what is proved about them.
 pub mod Ends
 pub mod Laws
+pub mod Running

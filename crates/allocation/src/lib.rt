@@ -10,8 +10,8 @@ use planning::Verdict;
 ghost use Rattle.planning.specs.Numbers.{callOn};
 ghost use Rattle.planning.specs.Promises.{Promised};
 
-// Plans on numbers: lists of watts, fuels, energies and limits; lent a piece table of deliveries × engines and a spare list, one number
-// for each engine.
+// Plans on numbers: lists of watts, fuels, energies and limits, and of quiet spans, three numbers each; lent a piece table of
+// deliveries × engines and a spare list, one number for each engine.
 pub fn allocate<'a>(
     mode: Mode,
     minutes: u64,
@@ -20,12 +20,13 @@ pub fn allocate<'a>(
     fuels: &'a [u64],
     energies: &'a [u64],
     limits: &'a [u64],
+    quiet: &'a [u64],
     table: &mut [u64],
     spare: &mut [u64],
 ) -> Allocation
     ensures { λ r. ⌜
         Promised
-        (callOn mode minutes allowance (now (watts .entry)) (now (fuels .entry)) (now (energies .entry)) (now (limits .entry)) (now (table .entry)) (now (spare .entry)))
+        (callOn mode minutes allowance (now (watts .entry)) (now (fuels .entry)) (now (energies .entry)) (now (limits .entry)) (now (quiet .entry)) (now (table .entry)) (now (spare .entry)))
         r
         (now (table .exit))
         (now (spare .exit))
@@ -39,6 +40,7 @@ pub fn allocate<'a>(
         fuels,
         energies,
         limits,
+        quiet,
         table.len(),
         spare.len(),
     );

@@ -2,8 +2,8 @@
 // prints the call, its answer and every cell.
 //
 // A plan is a line with its title, and the numbers: mode (0 fixed, 1 shortest), minutes, allowance, the lengths of the lists of watts,
-// fuels, energies and limits and of the lent table and spare list, and then the four lists. Anything that is no digit stands between
-// numbers, and the last one ends its line.
+// fuels, energies, limits and quiet spans and of the lent table and spare list, and then the five lists. Anything that is no digit stands
+// between numbers, and the last one ends its line.
 use libc::STDIN_FILENO;
 use libc::STDOUT_FILENO;
 use planning::Allocation;
@@ -52,6 +52,7 @@ struct Lengths {
     fuels: usize,
     energies: usize,
     limits: usize,
+    quiet: usize,
     table: usize,
     spare: usize,
     next: usize,
@@ -67,20 +68,25 @@ fn length_at(input: &[u8], from: usize, most: u64) -> Token
 // The lengths that begin at a place.
 fn lengths_at(input: &[u8], from: usize) -> Lengths
     ensures { λ r. ⌜
-        (r .limits ≤ 192) × (r .table ≤ 1024) × (r .spare ≤ 1024)
+        (r .quiet ≤ 512) × (r .table ≤ 1024) × (r .spare ≤ 1024)
         ⌝ }
 {
     let watts = length_at(input, from, 16);
     let fuels = length_at(input, watts.next, 16);
     let energies = length_at(input, fuels.next, 80);
     let limits = length_at(input, energies.next, 80);
-    let table = length_at(input, limits.next, 1000);
+    let quiet = length_at(input, limits.next, 320);
+    let table = length_at(input, quiet.next, 1000);
     let spare = length_at(input, table.next, 20);
+    let fuels_end = watts.value + fuels.value;
+    let energies_end = fuels_end + energies.value;
+    let limits_end = energies_end + limits.value;
     Lengths {
         watts: watts.value as usize,
-        fuels: (watts.value + fuels.value) as usize,
-        energies: (watts.value + fuels.value + energies.value) as usize,
-        limits: (watts.value + fuels.value + energies.value + limits.value) as usize,
+        fuels: fuels_end as usize,
+        energies: energies_end as usize,
+        limits: limits_end as usize,
+        quiet: (limits_end + quiet.value) as usize,
         table: table.value as usize,
         spare: spare.value as usize,
         next: spare.next,
@@ -155,18 +161,19 @@ fn part(list: &[u64], from: usize, end: usize) -> &[u64] {
     &list[from..end]
 }
 
-// Prints the four lists that a call is made with, which stand one behind the other, and how much is lent to it.
-fn print_lists(lists: &[u64; 192], n: Lengths) {
+// Prints the five lists that a call is made with, which stand one behind the other, and how much is lent to it.
+fn print_lists(lists: &[u64; 512], n: Lengths) {
     let whole: &[u64] = lists;
     print(list_page(b", watts", part(whole, 0, n.watts)));
     print(list_page(b", fuels", part(whole, n.watts, n.fuels)));
     print(list_page(b", energies", part(whole, n.fuels, n.energies)));
     print(list_page(b", limits", part(whole, n.energies, n.limits)));
+    print(list_page(b", quiet", part(whole, n.limits, n.quiet)));
     print(words_page(b", lent # and #\n", &[n.table as u64, n.spare as u64]));
 }
 
 // Runs the plan of these lists with the front of a table and of a spare list lent, and prints the answer and what is left in them.
-fn run_lists(mode: Mode, minutes: u64, allowance: u64, lists: &[u64; 192], n: Lengths)
+fn run_lists(mode: Mode, minutes: u64, allowance: u64, lists: &[u64; 512], n: Lengths)
     requires { ⌜ (n .table ≤ 1024) × (n .spare ≤ 1024) ⌝ }
 {
     let whole: &[u64] = lists;
@@ -182,6 +189,7 @@ fn run_lists(mode: Mode, minutes: u64, allowance: u64, lists: &[u64; 192], n: Le
         part(whole, n.watts, n.fuels),
         part(whole, n.fuels, n.energies),
         part(whole, n.energies, n.limits),
+        part(whole, n.limits, n.quiet),
         &mut table[0..table_len],
         &mut spare[0..spare_len],
     );
@@ -205,9 +213,9 @@ fn run_lists(mode: Mode, minutes: u64, allowance: u64, lists: &[u64; 192], n: Le
 // Runs the plan whose lengths begin at a place, and answers where it ends.
 fn run(input: &[u8], from: usize, mode: Mode, minutes: u64, allowance: u64) -> usize {
     let n = lengths_at(input, from);
-    let limits = n.limits;
-    let mut lists = [0; 192];
-    let after = numbers(input, n.next, &mut lists[0..limits]);
+    let quiet = n.quiet;
+    let mut lists = [0; 512];
+    let after = numbers(input, n.next, &mut lists[0..quiet]);
     print_lists(&lists, n);
     run_lists(mode, minutes, allowance, &lists, n);
     after

@@ -2,3 +2,4 @@
 pub mod Checked
 pub mod Columns
 pub mod Parts
+pub mod Quiet

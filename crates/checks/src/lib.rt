@@ -1,5 +1,6 @@
 // The checks of the allocation on numbers, and the plan by value behind them.
 mod columns;
+mod quiet;
 mod refusals;
 
 use planning::Mode;
@@ -14,7 +15,7 @@ pub struct Checked {
     pub plan: Plan,
 }
 
-// Refuses in document 01's order, or hands back the plan. Of the lent table and spare list it is told the lengths.
+// Refuses in the documents' order, or hands back the plan. Of the lent table and spare list it is told the lengths.
 pub fn check<'a>(
     mode: Mode,
     minutes: u64,
@@ -23,10 +24,11 @@ pub fn check<'a>(
     fuels: &'a [u64],
     energies: &'a [u64],
     limits: &'a [u64],
+    quiet: &'a [u64],
     table: usize,
     spare: usize,
 ) -> Checked
-    ensures { λ r. ⌜ r ≡ checkedOf (callLent mode minutes allowance (now (watts .entry)) (now (fuels .entry)) (now (energies .entry)) (now (limits .entry)) table spare) ⌝ }
+    ensures { λ r. ⌜ r ≡ checkedOf (callLent mode minutes allowance (now (watts .entry)) (now (fuels .entry)) (now (energies .entry)) (now (limits .entry)) (now (quiet .entry)) table spare) ⌝ }
 {
     let verdict = refusals::refusal(
         minutes,
@@ -35,6 +37,7 @@ pub fn check<'a>(
         fuels,
         energies,
         limits,
+        quiet,
         table,
         spare,
     );
@@ -44,7 +47,16 @@ pub fn check<'a>(
             Checked { verdict, plan }
         }
         Verdict::Accepted => {
-            let plan = columns::plan_of(mode, minutes, allowance, watts, fuels, energies, limits);
+            let plan = columns::plan_of(
+                mode,
+                minutes,
+                allowance,
+                watts,
+                fuels,
+                energies,
+                limits,
+                quiet,
+            );
             Checked { verdict, plan }
         }
     }

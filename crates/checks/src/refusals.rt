@@ -1,4 +1,5 @@
-// The refusals on numbers, in document 01's order.
+// The refusals on numbers, in the documents' order.
+use crate::quiet::spans;
 use planning::Fault;
 use planning::MOST_DELIVERIES;
 use planning::MOST_ENERGY;
@@ -21,13 +22,13 @@ ghost use Rattle.planning.specs.Refusals.{verdictOf};
 ghost use Rattle.checks.specs.Checked.{callLent};
 ghost use Rattle.checks.specs.Parts.{countsRefusal, valuesRefusal, firstFailing};
 
-fn fault(fault: Fault, place: u64) -> Verdict
+pub(crate) fn fault(fault: Fault, place: u64) -> Verdict
     ensures { λ r. ⌜ r ≡ verdictOf (some (record { fault = fault; place = place })) ⌝ }
 {
     Verdict::Refused(Refusal { fault, place })
 }
 
-// 3, 8, 7, 9, then 6.
+// 3, 8, 7, 9, then 6, and last the quiet spans.
 pub(crate) fn refusal<'a>(
     minutes: u64,
     allowance: u64,
@@ -35,10 +36,11 @@ pub(crate) fn refusal<'a>(
     fuels: &'a [u64],
     energies: &'a [u64],
     limits: &'a [u64],
+    quiet: &'a [u64],
     table: usize,
     spare: usize,
 ) -> Verdict
-    ensures { λ r. ⌜ r ≡ verdictOf (refusalOf (callLent Fixed minutes allowance (now (watts .entry)) (now (fuels .entry)) (now (energies .entry)) (now (limits .entry)) table spare)) ⌝ }
+    ensures { λ r. ⌜ r ≡ verdictOf (refusalOf (callLent Fixed minutes allowance (now (watts .entry)) (now (fuels .entry)) (now (energies .entry)) (now (limits .entry)) (now (quiet .entry)) table spare)) ⌝ }
 {
     if watts.len() != fuels.len() {
         return fault(Fault::Fields, 0);
@@ -46,9 +48,17 @@ pub(crate) fn refusal<'a>(
     if energies.len() != limits.len() {
         return fault(Fault::Fields, 0);
     }
+    if quiet.len() % 3 != 0 {
+        return fault(Fault::Fields, 0);
+    }
     match counts(watts.len(), energies.len(), table, spare) {
         Verdict::Refused(refusal) => Verdict::Refused(refusal),
-        Verdict::Accepted => values(minutes, allowance, watts, fuels, energies, limits),
+        Verdict::Accepted => {
+            match values(minutes, allowance, watts, fuels, energies, limits) {
+                Verdict::Refused(refusal) => Verdict::Refused(refusal),
+                Verdict::Accepted => spans(quiet, watts.len() as u64),
+            }
+        }
     }
 }
 

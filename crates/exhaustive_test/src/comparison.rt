@@ -1,5 +1,4 @@
 // One plan, answered by the allocation and by the exhaustive planner.
-use crate::cutting::capacity;
 use crate::cutting::given;
 use crate::cutting::serves;
 use crate::exhaustive::first_served;
@@ -8,8 +7,11 @@ use crate::numbers::entry;
 use crate::numbers::front;
 use crate::numbers::least;
 use crate::numbers::plus;
+use crate::numbers::times;
 use crate::plans::Plan;
 use crate::plans::cells_of;
+use crate::tasks::Task;
+use crate::tasks::task_of;
 use planning::Allocation;
 use planning::Mode;
 use planning::Outcome;
@@ -58,21 +60,18 @@ pub(crate) struct Answered {
 // Answers a plan by the allocation, over lists that are filled with patterns.
 pub(crate) fn answer_of(plan: Plan, mode: Mode, minutes: u64) -> Answered {
     let engines = least(plan.engines, 5) as usize;
-    let size = cells_of(plan);
-    let watts = plan.watts;
-    let fuels = plan.fuels;
-    let energies = plan.energies;
-    let limits = plan.limits;
+    let size = cells_of(plan.engines, plan.deliveries);
     let mut table = [TABLE_PATTERN; 20];
     let mut spare = [SPARE_PATTERN; 5];
     let allocation = allocation::allocate(
         mode,
         minutes,
         ALLOWANCE,
-        front(&watts, plan.engines),
-        front(&fuels, plan.engines),
-        front(&energies, plan.deliveries),
-        front(&limits, plan.deliveries),
+        front(&plan.watts, plan.engines),
+        front(&plan.fuels, plan.engines),
+        front(&plan.energies, plan.deliveries),
+        front(&plan.limits, plan.deliveries),
+        front(&plan.quiet, times(3, plan.spans)),
         &mut table[0..size],
         &mut spare[0..engines],
     );
@@ -85,18 +84,18 @@ pub(crate) fn answer_of(plan: Plan, mode: Mode, minutes: u64) -> Answered {
 
 // How many numbers behind the lent lists were changed.
 pub(crate) fn changed(plan: Plan, answer: Answered) -> u64 {
-    let size = cells_of(plan) as u64;
+    let size = cells_of(plan.engines, plan.deliveries) as u64;
     let in_table = others(back(&answer.table, size), TABLE_PATTERN) as u64;
     let in_spare = others(back(&answer.spare, plan.engines), SPARE_PATTERN) as u64;
     plus(in_table, in_spare)
 }
 
 // Whether each engine's spare is its capacity less its pieces.
-fn spares_right(plan: Plan, answer: Answered) -> bool {
+fn spares_right(task: Task, answer: Answered) -> bool {
     let mut i = 0;
-    while i < plan.engines {
-        let pieces = given(plan, &answer.table, i);
-        if plus(entry(&answer.spare, i), pieces) != capacity(plan, i, answer.minutes) {
+    while i < task.engines {
+        let pieces = given(task, &answer.table, i);
+        if plus(entry(&answer.spare, i), pieces) != entry(&task.capacities, i) {
             return false;
         }
         i += 1;
@@ -110,7 +109,8 @@ fn lists_right(plan: Plan, answer: Answered) -> bool {
         return others(&answer.table, TABLE_PATTERN) == 0
             && others(&answer.spare, SPARE_PATTERN) == 0;
     }
-    serves(plan, answer.minutes, 1, &answer.table) && spares_right(plan, answer)
+    let task = task_of(plan, answer.minutes);
+    serves(task, 1, &answer.table) && spares_right(task, answer)
 }
 
 // The first minute that a mode looks at.

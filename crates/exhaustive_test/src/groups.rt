@@ -39,13 +39,19 @@ fn print_mode(mode: Mode) {
     }
 }
 
+// Prints the first numbers of a list behind its name.
+fn print_front<'a>(name: &'a [u8], list: &'a [u64], count: u64) {
+    print(list_page(name, front(list, count)));
+}
+
 // Prints a plan on which the planners differ.
 fn print_difference(plan: Plan, mode: Mode, minutes: u64, answer: u64) {
     print_mode(mode);
-    print(list_page(b": watts", front(&plan.watts, plan.engines)));
-    print(list_page(b"; fuels", front(&plan.fuels, plan.engines)));
-    print(list_page(b"; energies", front(&plan.energies, plan.deliveries)));
-    print(list_page(b"; limits", front(&plan.limits, plan.deliveries)));
+    print_front(b": watts", &plan.watts, plan.engines);
+    print_front(b"; fuels", &plan.fuels, plan.engines);
+    print_front(b"; energies", &plan.energies, plan.deliveries);
+    print_front(b"; limits", &plan.limits, plan.deliveries);
+    print_front(b"; quiet", &plan.quiet, times(3, plan.spans));
     print(words_page(b"; in # min answered #: a difference\n", &[minutes, answer]));
 }
 
@@ -110,5 +116,8 @@ pub(crate) fn check_group(group: Group, total: Tally) -> Tally {
         tally,
         b", # none; # with a limit 1, # with deliveries alike, # with a capacity 0; # differences, # numbers changed behind the lent lists\n",
     );
+    if 1 < group.shape.ways {
+        tally::print_quiet(tally);
+    }
     tally::added(total, tally)
 }

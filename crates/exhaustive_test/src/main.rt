@@ -1,6 +1,6 @@
 // Compares the allocation on numbers with an exhaustive planner on small plans: the answer of `fixed`, the least minute of `shortest`,
 // each with cuttings in watt-hours, halves and thirds, and what a call leaves in the lists it is lent. Prints what was counted for each
-// group of plans, and the first plans of each on which the two differ.
+// group of plans, first of those without quiet spans, and the first plans of each on which the two differ.
 mod comparison;
 mod cutting;
 mod exhaustive;
@@ -8,10 +8,12 @@ mod groups;
 mod numbers;
 mod plans;
 mod tally;
+mod tasks;
 
 use crate::groups::Group;
 use crate::groups::check_group;
 use crate::plans::Shape;
+use crate::plans::quiet_shape_of;
 use crate::plans::shape_of;
 use crate::tally::Tally;
 use libc::STDOUT_FILENO;
@@ -54,6 +56,34 @@ fn check_small(engines: u64, step_fixed: u64, step_shortest: u64, total: Tally) 
     tally
 }
 
+// Checks one plan in so many under each mode, with some engines of sizes to 3, quiet in any of the ways, and 1 or 2 deliveries.
+fn check_quiet(engines: u64, step_one: u64, step_two: u64, total: Tally) -> Tally {
+    let shape = quiet_shape_of(engines, 1);
+    let tally = check_fixed(shape, step_one, total);
+    let tally = check_shortest(8, shape, step_one, tally);
+    let shape = quiet_shape_of(engines, 2);
+    let tally = check_fixed(shape, step_two, tally);
+    check_shortest(8, shape, step_two, tally)
+}
+
+// Prints a total.
+fn print_total(title: &[u8], total: Tally) {
+    io::write_all(STDOUT_FILENO, title);
+    tally::print_tally(
+        total,
+        b", # none; # with a limit 1, # with deliveries alike, # with a capacity 0; # differences\n",
+    );
+}
+
+// Plans with quiet spans: every one of 1 engine, and of 2 with 1 delivery, and samples of larger ones.
+fn check_all_quiet() {
+    let total = check_quiet(1, 1, 1, tally::empty());
+    let total = check_quiet(2, 1, 5, total);
+    let total = check_quiet(3, 53, 251, total);
+    print_total(b"all with quiet spans\n", total);
+    tally::print_quiet(total);
+}
+
 // Every small plan, of those with 3 engines under `shortest` one in 5, and then samples of larger ones: a wrong second cut shows with 4
 // engines, and bulk by whole division breaks no limit with fewer than 5. One plan in 59 takes in a plan where it does.
 fn main() {
@@ -70,9 +100,6 @@ fn main() {
     let total = check_fixed(shape_of(4, 3, 4, 4, 4), 997, total);
     let total = check_fixed(shape_of(5, 2, 2, 5, 4), 59, total);
     let total = check_shortest(8, shape_of(3, 3, 5, 5, 3), 499, total);
-    io::write_all(STDOUT_FILENO, b"all\n");
-    tally::print_tally(
-        total,
-        b", # none; # with a limit 1, # with deliveries alike, # with a capacity 0; # differences\n",
-    );
+    print_total(b"all\n", total);
+    check_all_quiet();
 }

@@ -47,6 +47,20 @@ pub(crate) fn entry(list: &[u64], i: u64) -> u64 {
     }
 }
 
+// Whether a value is among so many numbers of a list, from one on and each so far behind the one before.
+pub(crate) fn has(list: &[u64], first: u64, step: u64, count: u64, value: u64) -> bool {
+    let mut place = first;
+    let mut i = 0;
+    while i < count {
+        if entry(list, place) == value {
+            return true;
+        }
+        place = plus(place, step);
+        i += 1;
+    }
+    false
+}
+
 // The first numbers of a list, so many or all.
 pub(crate) fn front(list: &[u64], count: u64) -> &[u64] {
     let n = least(count, list.len() as u64) as usize;

@@ -1,10 +1,12 @@
 // What is counted over the plans of a group, and its print.
-use crate::cutting::has_idle;
 use crate::numbers::entry;
+use crate::numbers::has;
 use crate::numbers::plus;
 use crate::plans::Plan;
 use crate::plans::has_limit_one;
 use crate::plans::has_tie;
+use crate::tasks::running_each;
+use crate::tasks::task_of;
 use libc::STDOUT_FILENO;
 use report::Page;
 use report::words_page;
@@ -18,7 +20,8 @@ pub(crate) fn print(page: Page) {
 }
 
 // Plans, those answered none, those with a limit 1, with two deliveries alike, with an engine of capacity 0, those on which the planners differ,
-// how many numbers were changed behind the lent lists, and how many plans are found at each number of minutes.
+// how many numbers were changed behind the lent lists, plans with an engine that is quiet in all of MINUTES, those found in fewer, just behind
+// a span, and how many plans are found at each number of minutes.
 pub(crate) struct Tally {
     pub plans: u64,
     pub none: u64,
@@ -27,6 +30,8 @@ pub(crate) struct Tally {
     pub idle: u64,
     pub differences: u64,
     pub changed: u64,
+    pub wholly_quiet: u64,
+    pub behind_span: u64,
     pub found: [u64; 9],
 }
 
@@ -40,6 +45,8 @@ pub(crate) fn empty() -> Tally {
         idle: 0,
         differences: 0,
         changed: 0,
+        wholly_quiet: 0,
+        behind_span: 0,
         found,
     }
 }
@@ -61,6 +68,26 @@ fn count_found(found: [u64; 9], minutes: u64) -> [u64; 9] {
     counted
 }
 
+// Whether an engine has capacity 0.
+fn has_idle(plan: Plan, minutes: u64) -> bool {
+    let task = task_of(plan, minutes);
+    has(&task.capacities, 0, 1, plan.engines, 0)
+}
+
+// Whether an engine is quiet in each of the minutes.
+fn has_wholly_quiet(plan: Plan, minutes: u64) -> bool {
+    let running = running_each(plan, minutes);
+    has(&running, 0, 1, plan.engines, 0)
+}
+
+// Whether an answer is found in fewer than MINUTES, and its last minute is the first behind a span.
+fn is_behind_span(plan: Plan, minutes: u64, answer: u64) -> bool {
+    if answer == 0 {
+        return false;
+    }
+    answer < minutes && has(&plan.quiet, 2, 3, plan.spans, answer - 1)
+}
+
 // Counts a plan of so many MINUTES: by its answer, whether the planners agree on it, and by what makes it hard.
 pub(crate) fn counted(
     tally: Tally,
@@ -80,6 +107,8 @@ pub(crate) fn counted(
         idle: count_if(tally.idle, has_idle(plan, minutes)),
         differences: count_if(tally.differences, !agreed),
         changed: plus(tally.changed, changed),
+        wholly_quiet: count_if(tally.wholly_quiet, has_wholly_quiet(plan, minutes)),
+        behind_span: count_if(tally.behind_span, is_behind_span(plan, minutes, answer)),
         found,
     }
 }
@@ -95,6 +124,8 @@ pub(crate) fn added(total: Tally, tally: Tally) -> Tally {
         idle: plus(total.idle, tally.idle),
         differences: plus(total.differences, tally.differences),
         changed: plus(total.changed, tally.changed),
+        wholly_quiet: plus(total.wholly_quiet, tally.wholly_quiet),
+        behind_span: plus(total.behind_span, tally.behind_span),
         found,
     }
 }
@@ -126,5 +157,13 @@ pub(crate) fn print_tally(tally: Tally, words: &[u8]) {
             tally.differences,
             tally.changed,
         ],
+    ));
+}
+
+// Prints what is counted of plans with quiet spans alone.
+pub(crate) fn print_quiet(tally: Tally) {
+    print(words_page(
+        b"  # with an engine wholly quiet, # found sooner just behind a span\n",
+        &[tally.wholly_quiet, tally.behind_span],
     ));
 }

@@ -5,10 +5,12 @@ use Prim.Native.Nat.{ℕ}
 use mathlib.Core.List.{List, [], _∷_, map, zipWith}
 use lib.ListN.{replicate}
 use Rattle.planning.specs.Examples.Evaluation.{evaluated}
-use Rattle.planning.specs.Numbers.{Call, enginesOf, deliveriesOf, planOf, within, engineFault, deliveryFault, refusalOf, answeredBy as answerBy, allocation, unlessRefused, tableOnExit, spareOnExit, callOn}
+use Rattle.planning.specs.Numbers.{Call, quietOf, enginesOf, deliveriesOf, planOf, within, engineFault, deliveryFault, quietFault, checkQuiet, refusalOf}
+use Rattle.planning.specs.Numbers.{answeredBy as answerBy, allocation, unlessRefused, tableOnExit, spareOnExit, callOn}
+use Rattle.planning.specs.Quiet.{spansOf, clear, clearOf, fits}
 use Rattle.planning.specs.Refusals.{faultNumber, check, _then_, checkEach}
 use Rattle.export.specs.declared.PlanReply.{PlanReply}
-use Rattle.export.specs.Numbers.{isMode, modeOf, noMode, withoutMode, allocationBy, tableBy, spareBy}
+use Rattle.export.specs.Numbers.{isMode, modeOf, noMode, beforeMode, withoutMode, allocationBy, tableBy, spareBy}
 use Rattle.export.specs.Replies.{wordOf, answeredBy, refusedBy, replyOf}
 
 -- a mode and a call in it, with what is returned and what is then in the lent lists
@@ -21,7 +23,7 @@ pub record Example : Type 0 where
 
 -- what the definitions make of a mode and a call
 pub called : Example → Example
-unfolding evaluated enginesOf deliveriesOf planOf within engineFault deliveryFault refusalOf answerBy allocation unlessRefused tableOnExit spareOnExit faultNumber check _then_ checkEach zipWith isMode noMode withoutMode allocationBy tableBy spareBy wordOf answeredBy refusedBy replyOf
+unfolding evaluated quietOf enginesOf deliveriesOf planOf within engineFault deliveryFault spansOf clear clearOf fits quietFault checkQuiet refusalOf answerBy allocation unlessRefused tableOnExit spareOnExit faultNumber check _then_ checkEach zipWith isMode noMode beforeMode withoutMode allocationBy tableBy spareBy wordOf answeredBy refusedBy replyOf
 called e =
     record {
       mode = e .mode;
@@ -32,9 +34,13 @@ called e =
     }
 
 -- engines of 3,000 and 5,000 Wh in an hour, and deliveries of 5,000 and 3,000 Wh
+quietSite : (mode minutes : ℕ) → (fuels limits quiet : List ℕ) → (table : ℕ) → Call
+quietSite mode minutes fuels limits quiet table =
+    callOn (modeOf mode) minutes 100 (3000 ∷ 5000 ∷ []) fuels (5000 ∷ 3000 ∷ []) limits quiet (replicate table 7) (8 ∷ 8 ∷ [])
+
 site : (mode minutes : ℕ) → (fuels limits : List ℕ) → (table : ℕ) → Call
-site mode minutes fuels limits table =
-    callOn (modeOf mode) minutes 100 (3000 ∷ 5000 ∷ []) fuels (5000 ∷ 3000 ∷ []) limits (replicate table 7) (8 ∷ 8 ∷ [])
+unfolding quietSite
+site mode minutes fuels limits table = quietSite mode minutes fuels limits [] table
 
 hour : (mode : ℕ) → Call
 hour mode = site mode 60 (9000 ∷ 9000 ∷ []) (2 ∷ 2 ∷ []) 4
@@ -50,7 +56,7 @@ turnedDown mode number place call =
     }
 
 pub examples : List Example
-unfolding modeOf site hour turnedDown
+unfolding modeOf quietSite site hour turnedDown
 examples =
     -- 0 is fixed, 1 shortest
     record {
@@ -67,16 +73,30 @@ examples =
       table = 3000 ∷ 2000 ∷ 0 ∷ 3000 ∷ [];
       spare = 0 ∷ 0 ∷ [];
     }
+    -- with an hour in which the first engine is quiet
+    ∷ record {
+      mode = 1;
+      call = quietSite 1 240 (9000 ∷ 9000 ∷ []) (2 ∷ 2 ∷ []) (1 ∷ 0 ∷ 60 ∷ []) 4;
+      reply = record { word = 0; minutes = 83; tries = 2; length = 0; number = 0; place = 0 };
+      table = 1150 ∷ 3850 ∷ 0 ∷ 3000 ∷ [];
+      spare = 0 ∷ 66 ∷ [];
+    }
     -- any other number is refused by 6 at place 1, whatever else is out of range
     ∷ turnedDown 2 6 1 (hour 2)
     ∷ turnedDown 18446744073709551615 6 1 (hour 2)
     ∷ turnedDown 2 6 1 (site 2 0 (9000 ∷ 9000 ∷ []) (2 ∷ 2 ∷ []) 4)
     ∷ turnedDown 2 6 1 (site 2 60 (9000 ∷ 9000 ∷ []) (2 ∷ 13 ∷ []) 4)
     ∷ turnedDown 1 6 5 (site 1 60 (9000 ∷ 9000 ∷ []) (2 ∷ 13 ∷ []) 4)
+    -- before 10 and 11 of a quiet span, which have place 0
+    ∷ turnedDown 2 6 1 (quietSite 2 60 (9000 ∷ 9000 ∷ []) (2 ∷ 2 ∷ []) (3 ∷ 0 ∷ 5 ∷ []) 4)
+    ∷ turnedDown 0 10 0 (quietSite 0 60 (9000 ∷ 9000 ∷ []) (2 ∷ 2 ∷ []) (3 ∷ 0 ∷ 5 ∷ []) 4)
+    ∷ turnedDown 2 6 1 (quietSite 2 60 (9000 ∷ 9000 ∷ []) (2 ∷ 2 ∷ []) (1 ∷ 5 ∷ 5 ∷ []) 4)
+    ∷ turnedDown 1 11 0 (quietSite 1 60 (9000 ∷ 9000 ∷ []) (2 ∷ 2 ∷ []) (1 ∷ 5 ∷ 5 ∷ []) 4)
     -- but 3, 8, 7 and 9 come first
     ∷ turnedDown 2 3 0 (site 2 60 (9000 ∷ []) (2 ∷ 2 ∷ []) 4)
-    ∷ turnedDown 2 8 0 (callOn (modeOf 2) 60 100 [] [] [] [] [] [])
-    ∷ turnedDown 2 7 0 (callOn (modeOf 2) 60 100 (replicate 13 1) (replicate 13 1) [] [] [] (replicate 13 8))
+    ∷ turnedDown 2 3 0 (quietSite 2 60 (9000 ∷ 9000 ∷ []) (2 ∷ 2 ∷ []) (1 ∷ 5 ∷ []) 4)
+    ∷ turnedDown 2 8 0 (callOn (modeOf 2) 60 100 [] [] [] [] [] [] [])
+    ∷ turnedDown 2 7 0 (callOn (modeOf 2) 60 100 (replicate 13 1) (replicate 13 1) [] [] [] [] (replicate 13 8))
     ∷ turnedDown 2 9 0 (site 2 60 (9000 ∷ 9000 ∷ []) (2 ∷ 2 ∷ []) 3)
     ∷ []
 

@@ -4,7 +4,7 @@
 use mathlib.Core.Path.{_≡_, refl, sym, ap, _∙_}
 use mathlib.Core.Logic.{_⊎_, inl, inr}
 use mathlib.Core.Bool.{Bool, true, false}
-use mathlib.Core.List.{List}
+use mathlib.Core.List.{List, [], _∷_, _++_}
 use mathlib.Core.Option.{Option, none, some}
 use Prim.Native.Nat.{ℕ, _+_, _≤_, _<_}
 use native.Mathlib.Omega.{arith}
@@ -13,42 +13,57 @@ use borrow.Author.Tests.{le-leb, lt-leb}
 use Rattle.planning.specs.declared.Allocation.{Allocation}
 use Rattle.planning.specs.declared.Allocation.the-variants.{Refused}
 use Rattle.planning.specs.declared.Fault.{Fault}
-use Rattle.planning.specs.declared.Fault.the-variants.{Fields, Value, Count, NoEngine, Space}
+use Rattle.planning.specs.declared.Fault.the-variants.{Fields, Value, Count, NoEngine, Space, UnknownEngine, QuietSpan}
 use Rattle.planning.specs.declared.Refusal.{Refusal}
 use Rattle.planning.specs.Bounds.{mostMinutes, mostTries}
 use Rattle.planning.specs.Laws.Finite.Decisions.{le-or-lt}
 use Rattle.planning.specs.Laws.Refusals.{Only, only-check, only-then, only-each}
-use Rattle.planning.specs.Numbers.{Call, planOf, within, engineFault, deliveryFault, refusalOf, answeredBy, allocation, callOn}
+use Rattle.planning.specs.Numbers.{Call, quietOf, planOf, within, engineFault, deliveryFault, quietFault, checkQuiet, refusalOf, answeredBy, allocation, callOn}
 use Rattle.planning.specs.Plan.{Engine, Delivery}
 use Rattle.planning.specs.Promises.{Promised}
-use Rattle.planning.specs.Refusals.{faultNumber, check, checkEach, _then_}
+use Rattle.planning.specs.Quiet.{Quiet}
+use Rattle.planning.specs.Refusals.{check, checkEach, _then_}
 use Rattle.export.specs.declared.PlanReply.{PlanReply}
-use Rattle.export.specs.Numbers.{isMode, noMode, withoutMode, allocationBy, tableBy, spareBy, minutesUnder}
+use Rattle.export.specs.Numbers.{isMode, noMode, beforeMode, withoutMode, allocationBy, tableBy, spareBy, minutesUnder}
 use Rattle.export.specs.Replies.{replyOf, Replied}
 
--- ---- checks that refuse by 6 alone
+-- ---- checks that come behind that of the mode: 6, 10 and 11
 
-abbrev Is6 : Fault → (place : ℕ) → Type 0
-Is6 fault place = fault ≡ Value
+abbrev Behind : Fault → (place : ℕ) → Type 0
+Behind fault place = beforeMode fault ≡ false
 
-engines-by-6 : (es : List Engine) → Only Is6 (checkEach engineFault 2 es)
+value-behind : (t : Bool) (r : ℕ) → Only Behind (check t Value r)
+unfolding beforeMode
+value-behind t r = only-check Behind t Value r refl
+
+engines-behind : (es : List Engine) → Only Behind (checkEach engineFault 2 es)
 unfolding engineFault
-engines-by-6 es =
-    only-each Is6 engineFault (1 + length es) (λ r e h k. only-then Is6 (only-check Is6 _ Value r refl) (only-check Is6 _ Value r refl)) 2 es (omega arith) (omega arith)
+engines-behind es =
+    only-each Behind engineFault (1 + length es) (λ r e h k. only-then Behind (value-behind _ r) (value-behind _ r)) 2 es (omega arith) (omega arith)
 
-deliveries-by-6 : (first : ℕ) (ds : List Delivery) → Only Is6 (checkEach deliveryFault (2 + first) ds)
+deliveries-behind : (first : ℕ) (ds : List Delivery) → Only Behind (checkEach deliveryFault (2 + first) ds)
 unfolding deliveryFault
-deliveries-by-6 first ds =
-    only-each Is6 deliveryFault (1 + first + length ds) (λ r d h k. only-then Is6 (only-check Is6 _ Value r refl) (only-check Is6 _ Value r refl))
+deliveries-behind first ds =
+    only-each Behind deliveryFault (1 + first + length ds) (λ r d h k. only-then Behind (value-behind _ r) (value-behind _ r))
     (2 + first) ds (omega arith) (omega arith)
+
+spans-behind : (engines : ℕ) (earlier quiet : List Quiet) → Only Behind (checkQuiet engines earlier quiet)
+unfolding checkQuiet quietFault beforeMode
+spans-behind engines earlier [] = λ refusal e. let z : _≡_ {A = ℕ} 0 1 = cc in absurd (omega arith)
+spans-behind engines earlier (q ∷ quiet) =
+    only-then Behind
+    (only-then Behind (value-behind _ 0)
+    (only-then Behind (value-behind _ 0)
+    (only-then Behind (only-check Behind _ UnknownEngine 0 refl) (only-check Behind _ QuietSpan 0 refl))))
+    (spans-behind engines (earlier ++ q ∷ []) quiet)
 
 -- ---- the checks in order
 
--- without a mode, what 6 would say comes to 6 at the plan's record
-only-6 : (later : Option Refusal) → Only Is6 later → withoutMode later ≡ noMode
-unfolding withoutMode faultNumber
-only-6 none h = refl
-only-6 (some refusal) h = rw (h refusal refl)
+-- without a mode, what they would say comes to 6 at the plan's record
+only-behind : (later : Option Refusal) → Only Behind later → withoutMode later ≡ noMode
+unfolding withoutMode
+only-behind none h = refl
+only-behind (some refusal) h = rw (h refusal refl)
 
 -- a check of another number refuses with a mode and without
 other-check : (t : Bool) (fault : Fault) → withoutMode (some (record { fault = fault; place = 0 })) ≡ record { fault = fault; place = 0 }
@@ -68,6 +83,7 @@ inMinutes minutes call =
     (call .fuels)
     (call .energies)
     (call .limits)
+    (call .quiet)
     (call .table)
     (call .spare)
 
@@ -78,19 +94,22 @@ zero-minutes later = refl
 
 -- with 0 minutes a call is refused as it is without a mode
 no-minutes : (call : Call) → refusalOf (inMinutes 0 call) ≡ some (withoutMode (refusalOf call))
-unfolding refusalOf withoutMode faultNumber
+unfolding refusalOf withoutMode beforeMode
 no-minutes call =
-    let all-by-6 =
-    only-then Is6 (only-check Is6 (within 1 mostMinutes (call .minutes)) Value 1 refl)
-    (only-then Is6 (only-check Is6 (within 0 mostTries (call .allowance)) Value 1 refl)
-    (only-then Is6 (engines-by-6 (planOf call .engines)) (deliveries-by-6 (length (call .watts)) (planOf call .deliveries)))) in
+    let all-behind =
+    only-then Behind (value-behind (within 1 mostMinutes (call .minutes)) 1)
+    (only-then Behind (value-behind (within 0 mostTries (call .allowance)) 1)
+    (only-then Behind (engines-behind (planOf call .engines))
+    (only-then Behind (deliveries-behind (length (call .watts)) (planOf call .deliveries))
+    (spans-behind (length (call .watts)) [] (quietOf (call .quiet)))))) in
     other-check _ Fields refl _ _
+    (other-check _ Fields refl _ _
     (other-check _ Fields refl _ _
     (other-check _ NoEngine refl _ _
     (other-check _ Count refl _ _
     (other-check _ Count refl _ _
     (other-check _ Space refl _ _
-    (other-check _ Space refl _ _ (zero-minutes _ ∙ ap some (sym (only-6 _ all-by-6)))))))))
+    (other-check _ Space refl _ _ (zero-minutes _ ∙ ap some (sym (only-behind _ all-behind))))))))))
 
 no-minutes-refused : (call : Call) → allocation (inMinutes 0 call) ≡ Refused (withoutMode (refusalOf call))
 unfolding allocation answeredBy

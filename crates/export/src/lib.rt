@@ -100,12 +100,13 @@ pub extern "C" fn fothwen_allocate<'a>(
     fuels: &'a [u64],
     energies: &'a [u64],
     limits: &'a [u64],
+    quiet: &'a [u64],
     table: &mut [u64],
     spare: &mut [u64],
 ) -> PlanReply
     ensures { λ r. ⌜
         Replied mode
-        (callOn (modeOf mode) minutes allowance (now (watts .entry)) (now (fuels .entry)) (now (energies .entry)) (now (limits .entry)) (now (table .entry)) (now (spare .entry)))
+        (callOn (modeOf mode) minutes allowance (now (watts .entry)) (now (fuels .entry)) (now (energies .entry)) (now (limits .entry)) (now (quiet .entry)) (now (table .entry)) (now (spare .entry)))
         r (now (table .exit)) (now (spare .exit))
         ⌝ }
 {
@@ -117,6 +118,7 @@ pub extern "C" fn fothwen_allocate<'a>(
         fuels,
         energies,
         limits,
+        quiet,
         table,
         spare,
     );

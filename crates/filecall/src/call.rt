@@ -38,6 +38,8 @@ fn planned(plan: FilePlan, pieces: &mut [u64], spares: &mut [u64]) -> Answer
     let fuels = plan.fuels;
     let energies = plan.energies;
     let limits = plan.limits;
+    let numbers = 3 * plan.spans;
+    let quiet = plan.quiet;
     let allocation = allocation::allocate(
         mode,
         plan.minutes,
@@ -46,6 +48,7 @@ fn planned(plan: FilePlan, pieces: &mut [u64], spares: &mut [u64]) -> Answer
         &fuels[..engines],
         &energies[..deliveries],
         &limits[..deliveries],
+        &quiet[..numbers],
         pieces,
         spares,
     );

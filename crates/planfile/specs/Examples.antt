@@ -3,5 +3,6 @@ pub mod Calls
 pub mod Counts
 pub mod Evaluation
 pub mod Printed
+pub mod Quiet
 pub mod TurnedDown
 pub mod Written

@@ -1,6 +1,6 @@
 -- The refusal of a file (document 01, "Turned down"): number and record at fault, in document 01's order of checks, or the plan.
 -- "Order: 1; then records from the front, the first faulty one deciding; within a record 2, 3, 4, 7, then its fields from the left
--- (5 or 6); after the last record 8."
+-- (5 or 6); after the last record 8." In a quiet record (document 02, K1) 10 is "in the place of 5", and 11 comes "after all fields".
 -- Assumes nothing.
 use Prim.Native.Nat.{ℕ, suc, _+_}
 use mathlib.Core.Bool.{Bool, true, false, cond, not, _&&_}
@@ -12,14 +12,15 @@ use Rattle.rfc4180.specs.Fields.{fieldValues}
 use Rattle.rfc4180.specs.Records.{records}
 use Rattle.rfc4180.specs.Text.{ascii}
 use Rattle.planning.specs.declared.Fault.{Fault}
-use Rattle.planning.specs.declared.Fault.the-variants.{Size, Grammar, Fields, Kind, Name, Value, Count, NoEngine}
+use Rattle.planning.specs.declared.Fault.the-variants.{Size, Grammar, Fields, Kind, Name, Value, Count, NoEngine, UnknownEngine, QuietSpan}
 use Rattle.planning.specs.declared.Mode.{Mode}
 use Rattle.planning.specs.declared.Mode.the-variants.{Fixed, Shortest}
 use Rattle.planning.specs.declared.Refusal.{Refusal}
 use Rattle.planning.specs.Bounds.{mostEngines, mostDeliveries, mostMinutes, mostTries, mostWatts, mostFuel, mostEnergy, mostLimit}
 use Rattle.planning.specs.Numbers.{within}
+use Rattle.planning.specs.Quiet.{spansOf, fits}
 use Rattle.planfile.specs.Bounds.{mostBytes, mostNameBytes, leastNameByte, mostNameByte}
-use Rattle.planfile.specs.FilePlan.{FilePlan, engineNames, deliveryNames, engineOf, deliveryOf, begun, withEngine, withDelivery}
+use Rattle.planfile.specs.FilePlan.{FilePlan, engineNames, deliveryNames, engineOf, deliveryOf, begun, withEngine, withQuiet, withDelivery}
 use Rattle.planfile.specs.Numerals.{numberOf}
 
 -- what reading comes to: a value, or a refusal
@@ -144,14 +145,30 @@ readDelivery f r x = do
   v ← readItem mostDeliveries 1 mostEnergy 1 mostLimit (deliveryNames f) r x
   accepted (withDelivery f (deliveryOf (x .second) (v .first) (v .second)))
 
+-- a quiet span of the engine with that number, behind the spans so far: its fields from the left, then 11
+unfoldable pub readSpan : (engine : ℕ) → FilePlan → (r : ℕ) → FourFields → Read FilePlan
+readSpan engine f r x = do
+  from ← readNumber 0 mostMinutes r (x .third)
+  to ← readNumber 0 mostMinutes r (x .fourth)
+  _ ← require (fits (record { from = from; to = to }) (spansOf engine (f .quiet))) QuietSpan r
+  accepted (withQuiet f (record { engine = engine; span = record { from = from; to = to } }))
+
+-- a quiet span, and 10 where "the named engine isn't earlier in the file"
+unfoldable pub readQuiet : FilePlan → (r : ℕ) → FourFields → Read FilePlan
+readQuiet f r x = do
+  _ ← require (ltb (placeOf (x .second) (engineNames f)) (length (engineNames f))) UnknownEngine r
+  readSpan (suc (placeOf (x .second) (engineNames f))) f r x
+
 -- a record after record 1, by its first field: 4 for "first field unknown" and for "a plan later"
-unfoldable pub recordBy : (engine delivery : Bool) → FilePlan → (r : ℕ) → FourFields → Read FilePlan
-recordBy true delivery f r x = readEngine f r x
-recordBy false true f r x = readDelivery f r x
-recordBy false false f r x = fault Kind r
+unfoldable pub recordBy : (engine quiet delivery : Bool) → FilePlan → (r : ℕ) → FourFields → Read FilePlan
+recordBy true quiet delivery f r x = readEngine f r x
+recordBy false true delivery f r x = readQuiet f r x
+recordBy false false true f r x = readDelivery f r x
+recordBy false false false f r x = fault Kind r
 
 unfoldable pub readRecord : FilePlan → (r : ℕ) → FourFields → Read FilePlan
-readRecord f r x = recordBy (same (x .first) (ascii "engine")) (same (x .first) (ascii "delivery")) f r x
+readRecord f r x =
+    recordBy (same (x .first) (ascii "engine")) (same (x .first) (ascii "quiet")) (same (x .first) (ascii "delivery")) f r x
 
 -- the records from record r on, behind the plan so far
 unfoldable pub readRecords : FilePlan → (r : ℕ) → (texts : List (List ℕ)) → Read FilePlan

@@ -14,7 +14,15 @@ mostDeliveries = 37
 abbrev pub mostCells : ℕ
 mostCells = mostDeliveries * mostEngines
 
--- "MINUTES is 1 to 10,080."
+-- document 02, K1: "at most eight spans an engine"
+abbrev pub mostSpans : ℕ
+mostSpans = 8
+
+-- as many as all engines of a plan may have
+abbrev pub mostQuiet : ℕ
+mostQuiet = mostEngines * mostSpans
+
+-- "MINUTES is 1 to 10,080."; of a quiet span FROM and TO are "0 to 10,080" (document 02, K1)
 abbrev pub mostMinutes : ℕ
 mostMinutes = 10_080
 

@@ -2,22 +2,31 @@
 -- numbers make up.
 -- Assumes nothing.
 use mathlib.Core.Path.{_≡_}
-use mathlib.Core.List.{List}
-use Prim.Native.Nat.{ℕ}
+use mathlib.Core.List.{List, map}
+use Prim.Native.Nat.{ℕ, suc, _≤_}
 use lib.ListN.{length}
 use Rattle.planning.specs.declared.Deliveries.{Deliveries}
 use Rattle.planning.specs.declared.Engines.{Engines}
 use Rattle.planning.specs.declared.Plan.{Plan as ByValue}
-use Rattle.planning.specs.Bounds.{mostEngines, mostDeliveries, mostMinutes, mostTries}
-use Rattle.planning.specs.Numbers.{Call}
+use Rattle.planning.specs.declared.Spans.{Spans}
+use Rattle.planning.specs.Bounds.{mostEngines, mostDeliveries, mostQuiet, mostMinutes, mostTries}
+use Rattle.planning.specs.Numbers.{Call, quietOf}
 use Rattle.planning.specs.Plan.{Plan, Engine, Delivery, All, Within, EngineInRange, DeliveryInRange}
+use Rattle.planning.specs.Quiet.{Quiet, spansOf}
 use Rattle.planning.specs.Tables.{at, listed, padded}
 
 -- ---- the plan that it stands for
 
--- the engine and the delivery at a place of their columns
+-- the quiet span at a place of the columns, and as many as are counted
+unfoldable pub quietAt : Spans → (k : ℕ) → Quiet
+quietAt q k = record { engine = at (q .engine) k; span = record { from = at (q .from) k; to = at (q .to) k } }
+
+unfoldable pub quietIn : Spans → List Quiet
+quietIn q = listed (q .count) (λ k. quietAt q k)
+
+-- the engine with its spans, and the delivery, at a place of their columns
 unfoldable pub engineIn : Engines → (i : ℕ) → Engine
-engineIn e i = record { watts = at (e .watts) i; fuel = at (e .fuel) i }
+engineIn e i = record { watts = at (e .watts) i; fuel = at (e .fuel) i; quiet = spansOf (suc i) (quietIn (e .quiet)) }
 
 unfoldable pub deliveryIn : Deliveries → (p : ℕ) → Delivery
 deliveryIn d p = record { energy = at (d .energy) p; limit = at (d .limit) p }
@@ -41,11 +50,19 @@ planIn p =
 
 -- ---- when it can be planned: counts and ranges are document 01's, and every column fills its array
 
+pub record UsableSpans (engines : ℕ) (q : Spans) : Type 0 where
+  pub count : q .count ≤ mostQuiet
+  pub known : All (λ (x : Quiet). Within 1 engines (x .engine)) (quietIn q)
+  pub engine : length (q .engine) ≡ mostQuiet
+  pub from : length (q .from) ≡ mostQuiet
+  pub to : length (q .to) ≡ mostQuiet
+
 pub record UsableEngines (e : Engines) : Type 0 where
   pub count : Within 1 mostEngines (e .count)
   pub ranges : All EngineInRange (enginesIn e)
   pub watts : length (e .watts) ≡ mostEngines
   pub fuel : length (e .fuel) ≡ mostEngines
+  pub quiet : UsableSpans (e .count) (e .quiet)
 
 pub record UsableDeliveries (d : Deliveries) : Type 0 where
   pub count : Within 0 mostDeliveries (d .count)
@@ -61,6 +78,15 @@ pub record Usable (p : ByValue) : Type 0 where
 
 -- ---- the numbers of a call by value: each list in front of its column, zeros behind it
 
+unfoldable pub spansBy : List Quiet → Spans
+spansBy quiet =
+    record {
+      count = length quiet;
+      engine = padded mostQuiet (map (λ (q : Quiet). q .engine) quiet);
+      from = padded mostQuiet (map (λ (q : Quiet). q .span .from) quiet);
+      to = padded mostQuiet (map (λ (q : Quiet). q .span .to) quiet);
+    }
+
 unfoldable pub byValue : Call → ByValue
 byValue call =
     record {
@@ -72,6 +98,7 @@ byValue call =
             count = length (call .watts);
             watts = padded mostEngines (call .watts);
             fuel = padded mostEngines (call .fuels);
+            quiet = spansBy (quietOf (call .quiet));
           };
       deliveries =
           record {

@@ -3,4 +3,5 @@ pub mod Calls
 pub mod Discerning
 pub mod Evaluation
 pub mod Lookups
+pub mod Quiet
 pub mod Starred

@@ -1,5 +1,7 @@
 -- What is proved about the definitions beside this file.
+pub mod All
 pub mod ByValue
+pub mod Capacity
 pub mod Completeness
 pub mod Cuttings
 pub mod Finite
@@ -12,9 +14,11 @@ pub mod Padded
 pub mod Plans
 pub mod Promised
 pub mod Promises
+pub mod Quiet
 pub mod Refusals
 pub mod Saturation
 pub mod Search
 pub mod Soundness
 pub mod SpareLookup
 pub mod Tables
+pub mod Triples

@@ -9,6 +9,7 @@ pub mod Modes
 pub mod Numbers
 pub mod Plan
 pub mod Promises
+pub mod Quiet
 pub mod Refusals
 pub mod Search
 pub mod SpareLookup

@@ -1,15 +1,19 @@
 -- A plan: what a file, or a call on numbers, asks for. Names are the file's matter and have no part here.
 -- Assumes nothing.
-use Prim.Native.Nat.{ℕ, _≤_}
+use Prim.Native.Nat.{ℕ, _≤_, _<_}
+use mathlib.Core.Path.{_≡_}
+use mathlib.Core.Bool.{true}
 use mathlib.Core.List.{List, [], _∷_, map}
 use lib.ListN.{length}
 use Rattle.planning.specs.declared.Mode.{Mode}
-use Rattle.planning.specs.Bounds.{mostEngines, mostDeliveries, mostMinutes, mostTries, mostWatts, mostFuel, mostEnergy, mostLimit}
+use Rattle.planning.specs.Bounds.{mostEngines, mostDeliveries, mostSpans, mostMinutes, mostTries, mostWatts, mostFuel, mostEnergy, mostLimit}
+use Rattle.planning.specs.Quiet.{Span, lies}
 
--- "engine,NAME,WATTS,FUEL"
+-- "engine,NAME,WATTS,FUEL", and its quiet spans (document 02, K1)
 pub record Engine : Type 0 where
   pub watts : ℕ
   pub fuel : ℕ
+  pub quiet : List Span
 
 -- "delivery,NAME,ENERGY,LIMIT"
 pub record Delivery : Type 0 where
@@ -41,10 +45,32 @@ pub record Within (low high n : ℕ) : Type 0 where
   pub least : low ≤ n
   pub most : n ≤ high
 
+-- FROM and TO "0 to 10,080" (document 02, K1), and FROM below TO
+pub record SpanInRange (s : Span) : Type 0 where
+  pub from : Within 0 mostMinutes (s .from)
+  pub to : Within 0 mostMinutes (s .to)
+  pub below : s .from < s .to
+
+-- two spans do not overlap: no minute lies in both, so touching is fine
+abbrev pub Apart : Span → Span → Type 0
+Apart s t = (m : ℕ) → lies m s ≡ true → lies m t ≡ true → ⊥
+
+-- no two of a list of spans overlap
+abbrev pub AllApart : List Span → Type 0
+AllApart [] = Unit {0}
+AllApart (s ∷ spans) = All (Apart s) spans × AllApart spans
+
+-- an engine's spans: "at most eight", each in range, none overlapping another
+pub record QuietInRange (spans : List Span) : Type 0 where
+  pub count : length spans ≤ mostSpans
+  pub each : All SpanInRange spans
+  pub apart : AllApart spans
+
 -- "WATTS 0 to 5,000,000; FUEL .. 0 to 1,000,000,000."
 pub record EngineInRange (e : Engine) : Type 0 where
   pub watts : Within 0 mostWatts (e .watts)
   pub fuel : Within 0 mostFuel (e .fuel)
+  pub quiet : QuietInRange (e .quiet)
 
 -- "ENERGY 1 to 1,000,000,000 Wh; LIMIT .. 1 to 12."
 pub record DeliveryInRange (d : Delivery) : Type 0 where

@@ -10,7 +10,7 @@ use Rattle.planning.specs.declared.Allocation.{Allocation}
 use Rattle.planning.specs.declared.Allocation.the-variants.{Answered, Refused}
 use Rattle.planning.specs.declared.Answer.{Answer}
 use Rattle.planning.specs.declared.Fault.{Fault}
-use Rattle.planning.specs.declared.Fault.the-variants.{Size, Grammar, Fields, Kind, Name, Value, Count, NoEngine, Space}
+use Rattle.planning.specs.declared.Fault.the-variants.{Size, Grammar, Fields, Kind, Name, Value, Count, NoEngine, Space, UnknownEngine, QuietSpan}
 use Rattle.planning.specs.declared.Mode.the-variants.{Fixed, Shortest}
 use Rattle.planning.specs.declared.Outcome.the-variants.{Found, None, Stopped}
 use Rattle.planning.specs.declared.Refusal.{Refusal}
@@ -22,13 +22,16 @@ use Rattle.planning.specs.Plan.{Within}
 use Rattle.planning.specs.Sum.{sum}
 use Rattle.planning.specs.Tables.{pieceIn, at}
 
--- The faults on numbers, and where: "Its place for 6 is the record number with plan first, engines, then deliveries; else 0."
+-- The faults on numbers, and where: "Its place for 6 is the record number with plan first, engines, then deliveries; else 0.", and 6, 10 and 11 of
+-- a quiet span have "place 0" (document 02, K1).
 unfoldable pub FaultOnNumbers : (records : ℕ) → Fault → (place : ℕ) → Type 0
 FaultOnNumbers records Fields place = place ≡ 0
 FaultOnNumbers records NoEngine place = place ≡ 0
 FaultOnNumbers records Count place = place ≡ 0
 FaultOnNumbers records Space place = place ≡ 0
-FaultOnNumbers records Value place = Within 1 records place
+FaultOnNumbers records Value place = Within 0 records place
+FaultOnNumbers records UnknownEngine place = place ≡ 0
+FaultOnNumbers records QuietSpan place = place ≡ 0
 FaultOnNumbers records Size place = ⊥
 FaultOnNumbers records Grammar place = ⊥
 FaultOnNumbers records Kind place = ⊥

@@ -2,6 +2,8 @@
 // meaning is given in specs/.
 ghost use mathlib.Core.Path.{_≡_};
 ghost use lib.ListN.{length, take};
+ghost use Rattle.planning.specs.Numbers.{quietOf};
+ghost use Rattle.planning.specs.Quiet.{spansOf, clear, fits};
 ghost use Rattle.planning.specs.Refusals.{faultNumber};
 ghost use Rattle.planning.specs.Tables.{overFront};
 
@@ -11,6 +13,10 @@ pub const MOST_ENGINES: usize = 12;
 pub const MOST_DELIVERIES: usize = 37;
 
 pub const MOST_CELLS: usize = MOST_DELIVERIES * MOST_ENGINES;
+
+pub const MOST_SPANS: usize = 8;
+
+pub const MOST_QUIET: usize = MOST_ENGINES * MOST_SPANS;
 
 pub const MOST_MINUTES: u64 = 10080;
 
@@ -44,7 +50,7 @@ pub struct Answer {
     pub tries: u64,
 }
 
-// Why a call is turned down: the rows 1 to 9 of document 01's table, in its order.
+// Why a call is turned down: the rows 1 to 9 of document 01's table, in its order, then 10 and 11 of document 02.
 pub enum Fault {
     Size,
     Grammar,
@@ -55,6 +61,8 @@ pub enum Fault {
     Count,
     NoEngine,
     Space,
+    UnknownEngine,
+    QuietSpan,
 }
 
 // A refusal: the fault, and its place: the record at fault counted from 1, or 0.
@@ -69,11 +77,21 @@ pub enum Verdict {
     Refused(Refusal),
 }
 
-// The engines of a plan by value: a column for each figure, filled from the front and 0 behind the count.
+// The quiet spans of a plan's engines by value, in the order given: the number of each one's engine, counted from 1, FROM and TO. A column is
+// filled from the front and 0 behind the count.
+pub struct Spans {
+    pub count: usize,
+    pub engine: [u16; MOST_QUIET],
+    pub from: [u16; MOST_QUIET],
+    pub to: [u16; MOST_QUIET],
+}
+
+// The engines of a plan by value: a column for each figure, and their quiet spans.
 pub struct Engines {
     pub count: usize,
     pub watts: [u32; MOST_ENGINES],
     pub fuel: [u32; MOST_ENGINES],
+    pub quiet: Spans,
 }
 
 // The deliveries of a plan by value, alike.
@@ -105,7 +123,7 @@ pub enum Lookup {
     Refused(Refusal),
 }
 
-// Document 01's number of a fault.
+// The documents' number of a fault.
 pub fn number_of(fault: Fault) -> u64
     ensures { λ r. ⌜ r ≡ faultNumber fault ⌝ }
 {
@@ -119,6 +137,8 @@ pub fn number_of(fault: Fault) -> u64
         Fault::Count => 7,
         Fault::NoEngine => 8,
         Fault::Space => 9,
+        Fault::UnknownEngine => 10,
+        Fault::QuietSpan => 11,
     }
 }
 
@@ -143,4 +163,32 @@ pub fn copy(numbers: &[u64], to: &mut [u64])
         to[i] = numbers[i];
         i += 1;
     }
+}
+
+// Whether one of two spans ends before the other begins.
+fn apart(from: u64, to: u64, other_from: u64, other_to: u64) -> bool
+    ensures { λ r. ⌜ r ≡ clear (record { from = from; to = to }) (record { from = «other_from»; to = «other_to» }) ⌝ }
+{
+    to <= other_from || other_to <= from
+}
+
+// Whether a span may stand behind an engine's earlier ones, among those of a list of three numbers each: 11, as a test.
+pub fn span_fits(quiet: &[u64], engine: u64, from: u64, to: u64) -> bool
+    ensures { λ r. ⌜ r ≡ fits (record { from = from; to = to }) (spansOf engine (quietOf (now (quiet .entry)))) ⌝ }
+{
+    if to <= from {
+        return false;
+    }
+    let mut earlier = 0;
+    let mut at = 0;
+    while 2 < quiet.len() - at {
+        if quiet[at] == engine {
+            if !apart(from, to, quiet[at + 1], quiet[at + 2]) {
+                return false;
+            }
+            earlier += 1;
+        }
+        at += 3;
+    }
+    earlier < MOST_SPANS
 }

@@ -5,7 +5,9 @@ use mathlib.Core.List.{List, [], _∷_, _++_, map}
 use lib.ListN.{length}
 use Rattle.planning.specs.declared.Mode.the-variants.{Fixed}
 use Rattle.planning.specs.declared.Verdict.the-variants.{Accepted, Refused}
-use Rattle.planning.specs.Bounds.{mostEngines, mostDeliveries}
+use Rattle.planning.specs.Bounds.{mostEngines, mostQuiet, mostDeliveries}
+use Rattle.planning.specs.Numbers.{triplesOf}
+use Rattle.planning.specs.Quiet.{Quiet}
 use Rattle.planning.specs.Tables.{padded}
 use Rattle.planfile.specs.Bounds.{mostNameBytes}
 use Rattle.planfile.specs.FilePlan.{FilePlan, NamedEngine, NamedDelivery, begun}
@@ -20,7 +22,7 @@ pub record Item : Type 0 where
   pub second : ℕ
 
 abbrev pub engineItem : NamedEngine → Item
-engineItem e = record { name = e .name; first = e .engine .watts; second = e .engine .fuel }
+engineItem e = record { name = e .name; first = e .watts; second = e .fuel }
 
 abbrev pub deliveryItem : NamedDelivery → Item
 deliveryItem d = record { name = d .name; first = d .delivery .energy; second = d .delivery .limit }
@@ -47,9 +49,12 @@ columnsOf most items =
       seconds = padded most (map (λ (i : Item). i .second) items);
     }
 
--- the columns of a plan's engines and of its deliveries
+-- the columns of a plan's engines, of its quiet spans, three numbers each, and of its deliveries
 abbrev pub engineColumnsOf : List NamedEngine → Columns
 engineColumnsOf engines = columnsOf mostEngines (map engineItem engines)
+
+abbrev pub quietColumnOf : List Quiet → List ℕ
+quietColumnOf quiet = padded (3 * mostQuiet) (triplesOf quiet)
 
 abbrev pub deliveryColumnsOf : List NamedDelivery → Columns
 deliveryColumnsOf deliveries = columnsOf mostDeliveries (map deliveryItem deliveries)
@@ -68,6 +73,8 @@ byValue f =
       «engine_sizes» = e .sizes;
       watts = e .firsts;
       fuels = e .seconds;
+      spans = length (f .quiet);
+      quiet = quietColumnOf (f .quiet);
       deliveries = length (f .deliveries);
       «delivery_names» = d .names;
       «delivery_sizes» = d .sizes;

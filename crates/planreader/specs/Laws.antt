@@ -8,6 +8,7 @@ pub mod FieldNumbers
 pub mod Columns
 pub mod Opening
 pub mod Items
+pub mod Quiet
 pub mod Records
 pub mod Pending
 pub mod FileRead

@@ -5,4 +5,5 @@ pub mod Laws
 pub mod Opening
 pub mod Parts
 pub mod Plans
+pub mod Quiet
 pub mod Records

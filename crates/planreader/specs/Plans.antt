@@ -4,8 +4,10 @@ use mathlib.Core.Path.{_≡_}
 use mathlib.Core.List.{List}
 use Prim.Native.Nat.{ℕ, _*_, _≤_, _<_}
 use lib.ListN.{length, take, drop}
-use Rattle.planning.specs.Bounds.{mostEngines, mostDeliveries}
-use Rattle.planning.specs.Plan.{All, InRange}
+use Rattle.planning.specs.Bounds.{mostEngines, mostQuiet, mostDeliveries}
+use Rattle.planning.specs.Numbers.{quietOf}
+use Rattle.planning.specs.Plan.{All, Within, QuietInRange, InRange}
+use Rattle.planning.specs.Quiet.{Quiet, spansOf}
 use Rattle.planning.specs.Tables.{at, listed}
 use Rattle.planfile.specs.Bounds.{mostNameBytes}
 use Rattle.planfile.specs.FilePlan.{FilePlan, engineOf, deliveryOf, engineNames, deliveryNames, unnamed}
@@ -39,6 +41,17 @@ pub record Holding (n most : ℕ) (c : Columns) : Type 0 where
   pub seconds : length (c .seconds) ≡ most
   pub short : (k : ℕ) → k < n → at (c .sizes) k ≤ mostNameBytes
 
+-- the first n quiet spans of a column that has three numbers for each
+abbrev pub quietIn : (n : ℕ) → (column : List ℕ) → List Quiet
+quietIn n column = quietOf (take (3 * n) column)
+
+-- a column with places for the most quiet spans, of which the first n are filled: each is one of so many engines, and each engine's are in range
+pub record QuietHeld (engines n : ℕ) (column : List ℕ) : Type 0 where
+  pub room : n ≤ mostQuiet
+  pub whole : length column ≡ 3 * mostQuiet
+  pub known : All (λ (q : Quiet). Within 1 engines (q .engine)) (quietIn n column)
+  pub ranges : (i : ℕ) → QuietInRange (spansOf i (quietIn n column))
+
 -- the columns of a plan by value, and the plan
 abbrev pub engineColumns : ByValue → Columns
 engineColumns p = record { names = p .«engine_names»; sizes = p .«engine_sizes»; firsts = p .watts; seconds = p .fuels }
@@ -53,12 +66,14 @@ planBy p =
       minutes = p .minutes;
       allowance = p .allowance;
       engines = itemsIn engineOf (p .engines) (engineColumns p);
+      quiet = quietIn (p .spans) (p .quiet);
       deliveries = itemsIn deliveryOf (p .deliveries) (deliveryColumns p);
     }
 
 -- a plan by value whose columns are whole and whose plan is in range, its names sound, each used once
 pub record UsablePlan (p : ByValue) : Type 0 where
   pub engines : Holding (p .engines) mostEngines (engineColumns p)
+  pub quiet : QuietHeld (p .engines) (p .spans) (p .quiet)
   pub deliveries : Holding (p .deliveries) mostDeliveries (deliveryColumns p)
   pub inRange : InRange (unnamed (planBy p))
   pub enginesNamed : All SoundName (engineNames (planBy p))

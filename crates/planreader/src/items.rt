@@ -21,6 +21,7 @@ ghost use Rattle.planreader.specs.Plans.{nameList, NamesHeld, Holding};
 
 pub(crate) enum Kind {
     Engine,
+    Quiet,
     Delivery,
 }
 

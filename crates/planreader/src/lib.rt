@@ -4,6 +4,7 @@ mod items;
 mod names;
 mod numeral;
 mod opening;
+mod quiet;
 mod records;
 mod texts;
 
@@ -11,6 +12,7 @@ use opening::Beginning;
 use planfile::MOST_NAME_BYTES;
 use planning::MOST_DELIVERIES;
 use planning::MOST_ENGINES;
+use planning::MOST_QUIET;
 use planning::Mode;
 use planning::Refusal;
 use planning::Verdict;
@@ -19,8 +21,9 @@ ghost use mathlib.Core.Path.{_≡_};
 ghost use Rattle.planfile.specs.Reading.{refused as refusedBy, readFile};
 ghost use Rattle.planreader.specs.Columns.{readingOf};
 
-// The plan of a file by value, as specs/Columns' `byValue` has it: its engines and its deliveries as columns, filled from the front and 0 behind
-// the count. A name has 16 bytes, of which the first so many count; the others are 0.
+// The plan of a file by value, as specs/Columns' `byValue` has it: its engines, its quiet spans and its deliveries as columns, filled from the front
+// and 0 behind the count. A name has 16 bytes, of which the first so many count; the others are 0. A quiet span has three numbers: its engine,
+// counted from 1, FROM and TO.
 pub struct FilePlan {
     pub mode: Mode,
     pub minutes: u64,
@@ -30,6 +33,8 @@ pub struct FilePlan {
     pub engine_sizes: [u8; MOST_ENGINES],
     pub watts: [u64; MOST_ENGINES],
     pub fuels: [u64; MOST_ENGINES],
+    pub spans: usize,
+    pub quiet: [u64; 3 * MOST_QUIET],
     pub deliveries: usize,
     pub delivery_names: [u8; MOST_NAME_BYTES * MOST_DELIVERIES],
     pub delivery_sizes: [u8; MOST_DELIVERIES],
@@ -56,6 +61,8 @@ fn refused(refusal: Refusal) -> Reading
         engine_sizes: [0; MOST_ENGINES],
         watts: [0; MOST_ENGINES],
         fuels: [0; MOST_ENGINES],
+        spans: 0,
+        quiet: [0; 3 * MOST_QUIET],
         deliveries: 0,
         delivery_names: [0; MOST_NAME_BYTES * MOST_DELIVERIES],
         delivery_sizes: [0; MOST_DELIVERIES],
@@ -81,6 +88,7 @@ pub fn read(file: &[u8]) -> Reading
             let mut engine_sizes = [0u8; MOST_ENGINES];
             let mut watts = [0u64; MOST_ENGINES];
             let mut fuels = [0u64; MOST_ENGINES];
+            let mut quiet = [0u64; 3 * MOST_QUIET];
             let mut delivery_names = [0u8; MOST_NAME_BYTES * MOST_DELIVERIES];
             let mut delivery_sizes = [0u8; MOST_DELIVERIES];
             let mut energies = [0u64; MOST_DELIVERIES];
@@ -92,6 +100,7 @@ pub fn read(file: &[u8]) -> Reading
                 &mut engine_sizes,
                 &mut watts,
                 &mut fuels,
+                &mut quiet,
                 &mut delivery_names,
                 &mut delivery_sizes,
                 &mut energies,
@@ -99,7 +108,7 @@ pub fn read(file: &[u8]) -> Reading
             );
             match counted {
                 Counted::Refused(refusal) => return refused(refusal),
-                Counted::Items(engines, deliveries) => {
+                Counted::Items(engines, spans, deliveries) => {
                     let plan = FilePlan {
                         mode,
                         minutes,
@@ -109,6 +118,8 @@ pub fn read(file: &[u8]) -> Reading
                         engine_sizes,
                         watts,
                         fuels,
+                        spans,
+                        quiet,
                         deliveries,
                         delivery_names,
                         delivery_sizes,

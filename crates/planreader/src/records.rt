@@ -6,11 +6,13 @@ use crate::items::Added;
 use crate::items::DELIVERY;
 use crate::items::ENGINE;
 use crate::items::Kind;
+use crate::quiet;
 use crate::texts;
 use planfile::MOST_NAME_BYTES;
 use planning::Fault;
 use planning::MOST_DELIVERIES;
 use planning::MOST_ENGINES;
+use planning::MOST_QUIET;
 use planning::Refusal;
 ghost use mathlib.Core.List.{[]};
 ghost use Prim.Native.Nat.{_≤_};
@@ -18,10 +20,10 @@ ghost use lib.ListN.{length};
 ghost use Rattle.planning.specs.Bounds.{mostEngines, mostDeliveries};
 ghost use Rattle.planfile.specs.Bounds.{mostBytes};
 ghost use Rattle.planreader.specs.Parts.{IsCut};
-ghost use Rattle.planreader.specs.Plans.{Holding};
-ghost use Rattle.planreader.specs.Records.{Filled, AddsRecord, ItemsRead};
+ghost use Rattle.planreader.specs.Plans.{Holding, QuietHeld};
+ghost use Rattle.planreader.specs.Records.{Filled, SpansIn, AddsRecord, ItemsRead};
 
-// Adds the engine or delivery of a record that keeps RFC 4180: 3 and 4, then 7 and the item's fields.
+// Adds the engine, quiet span or delivery of a record that keeps RFC 4180: 3 and 4, then 7, its fields and 11.
 fn add_record(
     text: &[u8],
     fields: Fields,
@@ -30,6 +32,8 @@ fn add_record(
     engine_sizes: &mut [u8; MOST_ENGINES],
     watts: &mut [u64; MOST_ENGINES],
     fuels: &mut [u64; MOST_ENGINES],
+    spans: usize,
+    quiet: &mut [u64; 3 * MOST_QUIET],
     deliveries: usize,
     delivery_names: &mut [u8; MOST_NAME_BYTES * MOST_DELIVERIES],
     delivery_sizes: &mut [u8; MOST_DELIVERIES],
@@ -39,17 +43,19 @@ fn add_record(
     requires { ⌜
         IsCut (now text) fields
         × Holding engines mostEngines (record { names = now «engine_names»; sizes = now «engine_sizes»; firsts = now watts; seconds = now fuels })
+        × QuietHeld engines spans (now quiet)
         × Holding deliveries mostDeliveries
         (record { names = now «delivery_names»; sizes = now «delivery_sizes»; firsts = now energies; seconds = now limits })
         ⌝ }
     ensures { λ r. ⌜
-        AddsRecord (now (text .entry)) engines deliveries
+        AddsRecord (now (text .entry)) engines spans deliveries
         (record {
           names = now («engine_names» .entry);
           sizes = now («engine_sizes» .entry);
           firsts = now (watts .entry);
           seconds = now (fuels .entry);
         })
+        (now (quiet .entry))
         (record {
           names = now («delivery_names» .entry);
           sizes = now («delivery_sizes» .entry);
@@ -57,6 +63,7 @@ fn add_record(
           seconds = now (limits .entry);
         })
         (record { names = now («engine_names» .exit); sizes = now («engine_sizes» .exit); firsts = now (watts .exit); seconds = now (fuels .exit) })
+        (now (quiet .exit))
         (record {
           names = now («delivery_names» .exit);
           sizes = now («delivery_sizes» .exit);
@@ -82,6 +89,17 @@ fn add_record(
             fuels,
         );
     }
+    if texts::equal(kind, b"quiet") {
+        return quiet::add(
+            text,
+            fields,
+            engines,
+            &*engine_names,
+            &*engine_sizes,
+            spans,
+            quiet,
+        );
+    }
     if texts::equal(kind, b"delivery") {
         return items::add(
             text,
@@ -97,9 +115,9 @@ fn add_record(
     Added::Fault(Fault::Kind)
 }
 
-// What the items of a file come to: how many engines and deliveries there are, or a refusal.
+// What the records of a file come to: how many engines, quiet spans and deliveries there are, or a refusal.
 pub(crate) enum Counted {
-    Items(usize, usize),
+    Items(usize, usize, usize),
     Refused(Refusal),
 }
 
@@ -111,6 +129,7 @@ pub(crate) fn read(
     engine_sizes: &mut [u8; MOST_ENGINES],
     watts: &mut [u64; MOST_ENGINES],
     fuels: &mut [u64; MOST_ENGINES],
+    quiet: &mut [u64; 3 * MOST_QUIET],
     delivery_names: &mut [u8; MOST_NAME_BYTES * MOST_DELIVERIES],
     delivery_sizes: &mut [u8; MOST_DELIVERIES],
     energies: &mut [u64; MOST_DELIVERIES],
@@ -119,12 +138,14 @@ pub(crate) fn read(
     requires { ⌜
         (length (now file) ≤ mostBytes)
         × Filled mostEngines [] 0 (record { names = now «engine_names»; sizes = now «engine_sizes»; firsts = now watts; seconds = now fuels })
+        × SpansIn 0 [] 0 (now quiet)
         × Filled mostDeliveries [] 0
         (record { names = now «delivery_names»; sizes = now «delivery_sizes»; firsts = now energies; seconds = now limits })
         ⌝ }
     ensures { λ r. ⌜
         ItemsRead (now (file .entry)) start
         (record { names = now («engine_names» .exit); sizes = now («engine_sizes» .exit); firsts = now (watts .exit); seconds = now (fuels .exit) })
+        (now (quiet .exit))
         (record {
           names = now («delivery_names» .exit);
           sizes = now («delivery_sizes» .exit);
@@ -135,6 +156,7 @@ pub(crate) fn read(
         ⌝ }
 {
     let mut engines = 0;
+    let mut spans = 0;
     let mut deliveries = 0;
     let mut from = start;
     let mut place: u64 = 2;
@@ -155,6 +177,8 @@ pub(crate) fn read(
             &mut *engine_sizes,
             &mut *watts,
             &mut *fuels,
+            spans,
+            &mut *quiet,
             deliveries,
             &mut *delivery_names,
             &mut *delivery_sizes,
@@ -165,6 +189,7 @@ pub(crate) fn read(
             Added::Fault(fault) => return Counted::Refused(Refusal { fault, place }),
             Added::Item(kind) => match kind {
                 Kind::Engine => engines += 1,
+                Kind::Quiet => spans += 1,
                 Kind::Delivery => deliveries += 1,
             },
         }
@@ -177,5 +202,5 @@ pub(crate) fn read(
             place: 0,
         });
     }
-    Counted::Items(engines, deliveries)
+    Counted::Items(engines, spans, deliveries)
 }

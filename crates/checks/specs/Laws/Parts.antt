@@ -4,13 +4,13 @@
 use mathlib.Core.Path.{_≡_, refl, ap, ap₂, _∙_}
 use mathlib.Core.Logic.{_⊎_, inl, inr}
 use mathlib.Core.Bool.{Bool, true, false, _&&_}
-use mathlib.Core.List.{List, [], _∷_, zipWith}
+use mathlib.Core.List.{List, [], _∷_}
 use mathlib.Core.Option.{Option, none, some}
-use Prim.Native.Nat.{ℕ, suc, _+_, _≤_, _<_, min}
+use Prim.Native.Nat.{ℕ, suc, _+_, _%_, _≤_, _<_, min}
 use lib.Dec.{leb, eqb}
 use lib.ListN.{length, drop}
 use lib.Seq.{drop-cons, drop-length}
-use native.Mathlib.Nat.{suc-inj, add-assoc}
+use native.Mathlib.Nat.{add-assoc}
 use native.Mathlib.Numerals.{add-one}
 use native.Mathlib.Omega.{arith}
 use borrow.Author.Tests.{lt-leb, le-leb, leb-true}
@@ -21,10 +21,12 @@ use Rattle.planning.specs.declared.Verdict.the-variants.{Accepted, Refused}
 use Rattle.planning.specs.Bounds.{mostEngines, mostDeliveries, mostMinutes, mostTries, mostWatts, mostFuel, mostEnergy, mostLimit}
 use Rattle.planning.specs.Laws.Finite.Decisions.{le-or-lt}
 use Rattle.planning.specs.Laws.Numbers.{check-iff, then-iff, engine-count, delivery-count}
-use Rattle.planning.specs.Numbers.{Call, enginesOf, deliveriesOf, planOf, within, engineFault, deliveryFault, refusalOf}
+use Rattle.planning.specs.Laws.Tables.{listed-pairs}
+use Rattle.planning.specs.Numbers.{Call, quietOf, enginesOf, deliveriesOf, planOf, within, engineFault, deliveryFault, checkQuiet, refusalOf}
 use Rattle.planning.specs.Plan.{Engine, Delivery}
+use Rattle.planning.specs.Quiet.{Quiet}
 use Rattle.planning.specs.Refusals.{check, checkEach, _then_, verdictOf}
-use Rattle.planning.specs.Tables.{at}
+use Rattle.planning.specs.Tables.{at, listed}
 use Rattle.checks.specs.Parts.{countsRefusal, nextPlace, firstFailing, failsAt, valuesRefusal}
 
 -- ---- the first member that fails
@@ -43,19 +45,23 @@ module _ (sound : ℕ → Bool) (xs : List ℕ) (i : ℕ) where
   unfolding firstFailing
   first-none e = rw (← e, drop-length xs) (omega arith)
 
--- of pairs, where a pair is sound whose parts are
-first-of-pairs : {C : Type 0} (pair : ℕ → ℕ → C) (one two : ℕ → Bool) (both : C → Bool) → ((x y : ℕ) → both (pair x y) ≡ (one x && two y))
-    → (xs ys : List ℕ) → length xs ≡ length ys → firstFailing both (zipWith pair xs ys) ≡ min (firstFailing one xs) (firstFailing two ys)
-unfolding firstFailing zipWith
-first-of-pairs pair one two both h [] ys e = omega arith
-first-of-pairs pair one two both h (x ∷ xs) [] e = absurd (omega arith)
-first-of-pairs pair one two both h (x ∷ xs) (y ∷ ys) e =
-    rw (h x y, first-of-pairs pair one two both h xs ys (suc-inj e)) (go (one x) (two y) (firstFailing one xs) (firstFailing two ys))
+-- by two tests: the first that fails one of them
+first-both : {A : Type 0} (one two : A → Bool) (xs : List A) → firstFailing (λ x. one x && two x) xs ≡ min (firstFailing one xs) (firstFailing two xs)
+unfolding firstFailing
+first-both one two [] = omega arith
+first-both one two (x ∷ xs) = rw (first-both one two xs) (go (one x) (two x) (firstFailing one xs) (firstFailing two xs))
   where
     go : (a b : Bool) (m n : ℕ) → nextPlace (a && b) (min m n) ≡ min (nextPlace a m) (nextPlace b n)
     go true true m n = unfold nextPlace in omega arith
     go true false m n = unfold nextPlace in omega arith
     go false b m n = unfold nextPlace in omega arith
+
+-- by a test of one column of a list that is given place by place
+first-column : {A : Type 0} (column : A → ℕ) (sound : ℕ → Bool) (f : ℕ → A) (xs : List ℕ) → ((i : ℕ) → column (f i) ≡ at xs i)
+    → firstFailing (λ x. sound (column x)) (listed (length xs) f) ≡ firstFailing sound xs
+unfolding firstFailing listed
+first-column column sound f [] h = refl
+first-column column sound f (x ∷ xs) h = rw (h 0, first-column column sound (λ i. f (suc i)) xs (λ i. h (suc i)))
 
 leb-suc : (a b : ℕ) → leb (suc a) (suc b) ≡ leb a b
 leb-suc a b = go (le-or-lt a b)
@@ -129,39 +135,44 @@ then-assoc none b c = refl
 then-assoc (some r) b c = refl
 
 -- the checks of engines and of deliveries by their columns
-engines-columns : (r : ℕ) (watts fuels : List ℕ) → length watts ≡ length fuels
-    → checkEach engineFault r (enginesOf watts fuels)
+engines-columns : (r : ℕ) (watts fuels : List ℕ) (quiet : List Quiet) → length watts ≡ length fuels
+    → checkEach engineFault r (enginesOf watts fuels quiet)
     ≡ failsAt r (length watts) (min (firstFailing (within 0 mostWatts) watts) (firstFailing (within 0 mostFuel) fuels))
 unfolding engineFault enginesOf
-engines-columns r watts fuels e =
-    each-first engineFault sound (λ r e. check-both _ _ Value r) r (enginesOf watts fuels)
-    ∙ ap₂ (failsAt r) (engine-count watts fuels e) (first-of-pairs _ (within 0 mostWatts) (within 0 mostFuel) sound (λ x y. refl) watts fuels e)
-  where
-    sound : Engine → Bool
-    sound e = within 0 mostWatts (e .watts) && within 0 mostFuel (e .fuel)
+engines-columns r watts fuels quiet e =
+    each-first engineFault _ (λ r e. check-both _ _ Value r) r (enginesOf watts fuels quiet)
+    ∙ ap₂ (failsAt r) (engine-count watts fuels quiet)
+    (first-both (λ (e : Engine). within 0 mostWatts (e .watts)) (λ (e : Engine). within 0 mostFuel (e .fuel)) _
+    ∙ ap₂ min
+    (first-column (λ (e : Engine). e .watts) (within 0 mostWatts) _ watts (λ i. refl))
+    (rw e (first-column (λ (e : Engine). e .fuel) (within 0 mostFuel) _ fuels (λ i. refl))))
 
 deliveries-columns : (r : ℕ) (energies limits : List ℕ) → length energies ≡ length limits
     → checkEach deliveryFault r (deliveriesOf energies limits)
     ≡ failsAt r (length energies) (min (firstFailing (within 1 mostEnergy) energies) (firstFailing (within 1 mostLimit) limits))
 unfolding deliveryFault deliveriesOf
 deliveries-columns r energies limits e =
-    each-first deliveryFault sound (λ r d. check-both _ _ Value r) r (deliveriesOf energies limits)
-    ∙ ap₂ (failsAt r) (delivery-count energies limits e) (first-of-pairs _ (within 1 mostEnergy) (within 1 mostLimit) sound (λ x y. refl) energies limits e)
-  where
-    sound : Delivery → Bool
-    sound d = within 1 mostEnergy (d .energy) && within 1 mostLimit (d .limit)
+    each-first deliveryFault _ (λ r d. check-both _ _ Value r) r (deliveriesOf energies limits)
+    ∙ ap₂ (failsAt r) (delivery-count energies limits e)
+    (first-both (λ (d : Delivery). within 1 mostEnergy (d .energy)) (λ (d : Delivery). within 1 mostLimit (d .limit)) _
+    ∙ rw (← listed-pairs {A = Delivery} (λ e l. record { energy = e; limit = l }) energies limits e)
+    (ap₂ min
+    (first-column (λ (d : Delivery). d .energy) (within 1 mostEnergy) _ energies (λ i. refl))
+    (rw e (first-column (λ (d : Delivery). d .limit) (within 1 mostLimit) _ limits (λ i. refl)))))
 
--- the lengths of paired lists, then the counts; where the lists are paired, then the values
+-- the lengths of paired lists and of the quiet spans, then the counts; where the lists are paired, then the values; the quiet spans last
 pub refusal-parts : (call : Call) → length (call .watts) ≡ length (call .fuels) → length (call .energies) ≡ length (call .limits)
     → refusalOf call
     ≡ check (eqb (length (call .watts)) (length (call .fuels))) Fields 0
     then check (eqb (length (call .energies)) (length (call .limits))) Fields 0
+    then check (eqb (length (call .quiet) % 3) 0) Fields 0
     then countsRefusal (length (call .watts)) (length (call .energies)) (length (call .table)) (length (call .spare))
     then valuesRefusal (call .minutes) (call .allowance) (call .watts) (call .fuels) (call .energies) (call .limits)
+    then checkQuiet (length (call .watts)) [] (quietOf (call .quiet))
 unfolding refusalOf planOf countsRefusal valuesRefusal
 refusal-parts call engines deliveries =
     simp (
-      engines-columns 2 (call .watts) (call .fuels) engines,
+      engines-columns 2 (call .watts) (call .fuels) (quietOf (call .quiet)) engines,
       deliveries-columns (2 + length (call .watts)) (call .energies) (call .limits) deliveries,
       then-assoc,
     )

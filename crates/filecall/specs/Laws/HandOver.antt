@@ -17,12 +17,12 @@ use Rattle.planning.specs.declared.Allocation.the-variants.{Answered}
 use Rattle.planning.specs.declared.Allocation.the-variants as allocations
 use Rattle.planning.specs.declared.Answer.{Answer}
 use Rattle.planning.specs.declared.Refusal.{Refusal}
-use Rattle.planning.specs.Bounds.{mostEngines, mostDeliveries, mostCells}
+use Rattle.planning.specs.Bounds.{mostDeliveries, mostCells}
 use Rattle.planning.specs.Laws.Modes.{planned-searched}
 use Rattle.planning.specs.Laws.Numbers.{unrefused-iff}
 use Rattle.planning.specs.Laws.OnExit.{over-whole}
 use Rattle.planning.specs.Laws.Soundness.{plan-length, length-spares}
-use Rattle.planning.specs.Laws.Tables.{length-listed, listed-same, map-listed}
+use Rattle.planning.specs.Laws.Tables.{length-listed, listed-same, listed-take, map-listed}
 use Rattle.planning.specs.Modes.{planned, answerOf, spares, tableBy, sparesBy, tableAfter, sparesAfter}
 use Rattle.planning.specs.Numbers.{Call, Accepted, planOf, enginesOf, deliveriesOf, answeredBy, allocation, unlessRefused, tableOnExit, spareOnExit, callOn}
 use Rattle.planning.specs.Plan.{Plan}
@@ -39,7 +39,7 @@ use Rattle.planfile.specs.Reading.{_>>=_, require}
 use Rattle.planreader.specs.declared.FilePlan.{FilePlan as ByValue}
 use Rattle.filecall.specs.HandOver.{Answers, withSpace, lentLists, HandedOver}
 use Rattle.planreader.specs.Columns.{Columns}
-use Rattle.planreader.specs.Plans.{nameList, NamesHeld, itemsIn, Holding, engineColumns, deliveryColumns, planBy, UsablePlan}
+use Rattle.planreader.specs.Plans.{nameAt, nameList, NamesHeld, itemsIn, Holding, quietIn, engineColumns, deliveryColumns, planBy, UsablePlan}
 use Rattle.filecall.specs.Laws.Printing.{print-by-names}
 use Rattle.filecall.specs.Printing.{engineList, deliveryList, printLines}
 
@@ -62,18 +62,31 @@ unnamed-items make content pair same n most c h =
     paired pair n (c .firsts) (c .seconds) (omega (arith, h .room, h .firsts)) (omega (arith, h .room, h .seconds))
     ∙ sym (map-listed content n _ ∙ listed-same n _ _ (λ k l. same _ _ _))
 
+-- one number of each item is the front of its column
+column-back : {A : Type 0} (make : List ℕ → ℕ → ℕ → A) (number : A → ℕ) (n : ℕ) (c : Columns) (column : List ℕ)
+    → ((k : ℕ) → k < n → number (make (nameAt (c .names) (c .sizes) k) (at (c .firsts) k) (at (c .seconds) k)) ≡ at column k)
+    → n ≤ length column → map number (itemsIn make n c) ≡ take n column
+unfolding itemsIn
+column-back make number n c column is l = map-listed number n _ ∙ listed-same n _ _ is ∙ listed-take n column l
+
 module _ {p : ByValue} (u : UsablePlan p) (table spare : List ℕ) where
   -- the call on the plan's numbers
   abbrev pub callBy : Call
   callBy =
       callOn (p .mode) (p .minutes) (p .allowance) (take (p .engines) (p .watts)) (take (p .engines) (p .fuels))
-      (take (p .deliveries) (p .energies)) (take (p .deliveries) (p .limits)) table spare
+      (take (p .deliveries) (p .energies)) (take (p .deliveries) (p .limits)) (take (3 * p .spans) (p .quiet)) table spare
+
+  watts-back : map (λ (i : NamedEngine). i .watts) (planBy p .engines) ≡ take (p .engines) (p .watts)
+  watts-back = column-back engineOf _ (p .engines) (engineColumns p) (p .watts) (λ k l. refl) (omega (arith, u .engines .room, u .engines .firsts))
+
+  fuels-back : map (λ (i : NamedEngine). i .fuel) (planBy p .engines) ≡ take (p .engines) (p .fuels)
+  fuels-back = column-back engineOf _ (p .engines) (engineColumns p) (p .fuels) (λ k l. refl) (omega (arith, u .engines .room, u .engines .seconds))
 
   call-plan : planOf callBy ≡ unnamed (planBy p)
-  unfolding planOf enginesOf deliveriesOf unnamed
+  unfolding planOf deliveriesOf unnamed
   call-plan =
       ap₂ (λ es ds. record { mode = p .mode; minutes = p .minutes; allowance = p .allowance; engines = es; deliveries = ds })
-      (unnamed-items engineOf (λ (i : NamedEngine). i .engine) _ (λ t a b. refl) (p .engines) mostEngines (engineColumns p) (u .engines))
+      (ap₂ (λ ws fs. enginesOf ws fs (quietIn (p .spans) (p .quiet))) (sym watts-back) (sym fuels-back))
       (unnamed-items deliveryOf (λ (i : NamedDelivery). i .delivery) _ (λ t a b. refl) (p .deliveries) mostDeliveries (deliveryColumns p) (u .deliveries))
 
   column-lengths : (length (take (p .engines) (p .watts)) ≡ p .engines) × (length (take (p .engines) (p .fuels)) ≡ p .engines)
@@ -85,12 +98,17 @@ module _ {p : ByValue} (u : UsablePlan p) (table spare : List ℕ) where
     length-take-le (p .deliveries) (p .limits) (omega (arith, u .deliveries .room, u .deliveries .seconds)),
   )
 
+  quiet-length : length (take (3 * p .spans) (p .quiet)) ≡ 3 * p .spans
+  quiet-length = length-take-le (3 * p .spans) (p .quiet) (omega (arith, u .quiet .room, u .quiet .whole))
+
   module _ (cells : length table ≡ p .deliveries * p .engines) (count : length spare ≡ p .engines) where
     call-accepted : Accepted callBy
     call-accepted =
         record {
           engineLists = column-lengths .0 ∙ sym (column-lengths .1);
           deliveryLists = column-lengths .2 ∙ sym (column-lengths .3);
+          quietThrees = omega (arith, quiet-length);
+          quietEngines = rw (column-lengths .0) (u .quiet .known);
           inRange = rw call-plan (u .inRange);
           table = rw (column-lengths .0, column-lengths .2) cells;
           spare = rw (column-lengths .0) count;

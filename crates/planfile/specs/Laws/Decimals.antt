@@ -15,8 +15,8 @@ use Rattle.rfc4180.specs.Laws.Classes.{text-class}
 use Rattle.rfc4180.specs.Writer.{needsQuotes, writable}
 use Rattle.planning.specs.Laws.Finite.Decisions.{le-or-lt}
 use Rattle.planning.specs.Plan.{All, Within}
+use Rattle.planning.specs.Laws.All.{all-append}
 use Rattle.planfile.specs.Numerals.{digitZero, digitNine, valueBehind, Numeral, numeral-zero, numeral-digits, decimalWithin, decimal}
-use Rattle.planfile.specs.Laws.Listed.{all-append}
 
 -- ---- digit by digit
 

@@ -2,21 +2,25 @@
 -- Assumes nothing.
 use mathlib.Core.Path.{_≡_, refl, sym, _∙_, subst}
 use mathlib.Core.Logic.{_↔_, Iff·rfl}
-use Prim.Native.Nat.{ℕ, _≤_}
+use Prim.Native.Nat.{ℕ, suc, _≤_}
 use native.Mathlib.Omega.{arith}
-use mathlib.Core.List.{List, _∷_}
-use lib.ListN.{length, length-map}
+use mathlib.Core.List.{List, [], _∷_, _++_, map, map-id}
+use lib.ListN.{length, length-map, length-append}
 use Rattle.rfc4180.specs.Fields.{fileValues}
 use Rattle.rfc4180.specs.Records.{records}
 use Rattle.rfc4180.specs.Laws.Files.{file-complete, file-sound}
 use Rattle.planning.specs.declared.Refusal.{Refusal}
-use Rattle.planning.specs.Plan.{Within, InRange}
-use Rattle.planning.specs.Laws.Numbers.{leb-iff, within-iff}
+use Rattle.planning.specs.Plan.{All, Within, QuietInRange, InRange}
+use Rattle.planning.specs.Quiet.{Span, Quiet, spansOf}
+use Rattle.planning.specs.Laws.All.{all-more, all-each}
+use Rattle.planning.specs.Laws.Numbers.{leb-iff, within-iff, FiguresInRange, engine-count as planning-count, engines-in-range, engines-figures, engines-quiet}
+use Rattle.planning.specs.Numbers.{enginesOf}
+use Rattle.planning.specs.Tables.{at, listed}
 use Rattle.planfile.specs.Bounds.{mostBytes}
 use Rattle.planfile.specs.FilePlan.{FilePlan, NamedEngine, NamedDelivery, unnamed}
-use Rattle.planfile.specs.Holding.{Holds}
+use Rattle.planfile.specs.Holding.{Mixture, mixture-none, mixture-engine, mixture-quiet, mixture-delivery, Holds}
 use Rattle.planfile.specs.Reading.{Read, refused, accepted, readFile}
-use Rattle.planfile.specs.Laws.Records.{SoFar}
+use Rattle.planfile.specs.Laws.Records.{Figured, SoFar}
 use Rattle.planfile.specs.Laws.Reading.{Recorded, read-texts-iff}
 use Rattle.planfile.specs.Laws.Tests.{accepted-iff, refused-not-accepted, bind-iff, require-iff}
 
@@ -29,21 +33,67 @@ read-file-iff bytes f = simp (require-iff, within-iff, bind-iff, read-texts-iff,
 -- the plan without its names has as many engines and deliveries
 pub engine-count : (f : FilePlan) → length ((unnamed f) .engines) ≡ length (f .engines)
 unfolding unnamed
-engine-count f = length-map (f .engines) (λ (e : NamedEngine). e .engine)
+engine-count f =
+    planning-count (map (λ (e : NamedEngine). e .watts) (f .engines)) (map (λ (e : NamedEngine). e .fuel) (f .engines)) (f .quiet)
+    ∙ length-map (f .engines) (λ (e : NamedEngine). e .watts)
 
 pub delivery-count : (f : FilePlan) → length ((unnamed f) .deliveries) ≡ length (f .deliveries)
 unfolding unnamed
 delivery-count f = length-map (f .deliveries) (λ (d : NamedDelivery). d .delivery)
 
+-- the figures of engines, engine by engine and as the columns of a plan
+figures-listed : (engines : List NamedEngine) (spans : ℕ → List Span)
+    → All Figured engines
+    ↔ All FiguresInRange (listed (length (map (λ (e : NamedEngine). e .watts) engines))
+    (λ i. record {
+      watts = at (map (λ (e : NamedEngine). e .watts) engines) i;
+      fuel = at (map (λ (e : NamedEngine). e .fuel) engines) i;
+      quiet = spans i;
+    }))
+unfolding listed
+figures-listed [] spans = Iff·rfl
+figures-listed (e ∷ engines) spans =
+    let others = figures-listed engines (λ i. spans (suc i)) in (λ (one, all). (one, others .0 all), λ (one, all). (one, others .1 all))
+
+-- a plan in range: its engines' figures and, where every span is one of an engine, each engine's spans
+module _ (f : FilePlan) (ranges : InRange (unnamed f)) where
+  abbrev watts : List ℕ
+  watts = map (λ (e : NamedEngine). e .watts) (f .engines)
+
+  abbrev fuels : List ℕ
+  fuels = map (λ (e : NamedEngine). e .fuel) (f .engines)
+
+  pub plan-figures : All Figured (map (λ (e : NamedEngine). e) (f .engines))
+  unfolding unnamed enginesOf
+  plan-figures = rw map-id (figures-listed (f .engines) _ .1 (engines-figures watts fuels (f .quiet) (ranges .engines)))
+
+  pub plan-quiet : All (λ (q : Quiet). Within 1 (length (f .engines)) (q .engine)) (f .quiet) → (n : ℕ) → QuietInRange (spansOf n (f .quiet))
+  unfolding unnamed
+  plan-quiet known = engines-quiet watts fuels (f .quiet) (ranges .engines) (rw length-map known)
+
+-- every span of a mixture is one of its engines
+pub mixture-known : {records : List (List (List ℕ))} {engines : List NamedEngine} {quiet : List Quiet} {deliveries : List NamedDelivery}
+    → Mixture records engines quiet deliveries → All (λ (q : Quiet). Within 1 (length engines) (q .engine)) quiet
+mixture-known mixture-none = tt
+mixture-known (mixture-engine {engines = engines} {quiet = quiet} m e p q) =
+    let wider : (x : Quiet) → Within 1 (length engines) (x .engine) → Within 1 (length (engines ++ e ∷ [])) (x .engine) = λ x w.
+    record { least = w .least; most = omega (arith, w .most, length-append engines (e ∷ [])) } in
+    all-each wider quiet (mixture-known m)
+mixture-known (mixture-quiet {engines = engines} {quiet = quiet} m i l s p q) =
+    all-more _ quiet _ .1 (mixture-known m, record { least = omega arith; most = l })
+mixture-known (mixture-delivery m d p q) = mixture-known m
+
 in-range : (f : FilePlan) → SoFar f → 1 ≤ length (f .engines) → InRange (unnamed f)
-unfolding unnamed
+unfolding unnamed enginesOf
 in-range f s one =
     record {
       minutes = s .minutes;
       allowance = s .allowance;
       engineCount = rw (engine-count f) (record { least = one; most = s .engines .count });
       deliveryCount = rw (delivery-count f) (record { least = omega arith; most = s .deliveries .count });
-      engines = s .engines .inRange;
+      engines =
+          engines-in-range (map (λ (e : NamedEngine). e .watts) (f .engines)) (map (λ (e : NamedEngine). e .fuel) (f .engines)) (f .quiet)
+          (figures-listed (f .engines) _ .0 (rw map-id at (s .engines .inRange))) (s .quiet);
       deliveries = s .deliveries .inRange;
     }
 
@@ -80,10 +130,11 @@ so-far {f = f} h =
       engines =
           record {
             count = rw (engine-count f) at (range .engineCount .most);
-            inRange = range .engines;
+            inRange = plan-figures f range;
             named = h .enginesNamed;
             unlike = h .enginesUnlike;
           };
+      quiet = plan-quiet f range (mixture-known (h .mixture));
       deliveries =
           record {
             count = rw (delivery-count f) at (range .deliveryCount .most);

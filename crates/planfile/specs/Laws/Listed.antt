@@ -9,6 +9,7 @@ use mathlib.Core.Bool.{and-eq-true-iff}
 use mathlib.Core.List.{List, [], _∷_, _++_, map, map-append}
 use lib.ListN.{length, length-append, length-map}
 use Rattle.planning.specs.Plan.{All, Within}
+use Rattle.planning.specs.Laws.All.{all-append}
 use Rattle.planning.specs.Laws.Numbers.{ltb-iff}
 use Rattle.planfile.specs.Holding.{SoundName, Unlike}
 use Rattle.planfile.specs.Numerals.{Numeral}
@@ -16,20 +17,6 @@ use Rattle.planfile.specs.Reading.{accepted, FourFields, Figures, readIt
 use Rattle.planfile.specs.Laws.Tests.{sound-name-iff, unused-iff, accepted-iff, bind-iff, require-iff, read-number-iff}
 
 -- ---- lists one behind the other
-
--- a predicate of all members of two lists
-pub all-append : {A : Type 0} (P : A → Type 0) (xs ys : List A) → All P (xs ++ ys) ↔ (All P xs × All P ys)
-all-append P [] ys = (λ all. (tt, all), λ both. both .1)
-all-append P (x ∷ xs) ys =
-    let others = all-append P xs ys in (
-      λ all. ((all .0, others .0 (all .1) .0), others .0 (all .1) .1),
-      λ both. (both .0 .0, others .1 (both .0 .1, both .1)),
-    )
-
--- .. and one that follows from another for each member
-pub all-each : {A : Type 0} {P Q : A → Type 0} → ((x : A) → P x → Q x) → (xs : List A) → All P xs → All Q xs
-all-each follows [] all = tt
-all-each follows (x ∷ xs) all = (follows x (all .0), all-each follows xs (all .1))
 
 all-mapped : {A B : Type 0} (P : B → Type 0) (h : A → B) (xs ys : List A) → All P (map h (xs ++ ys)) ↔ (All P (map h xs) × All P (map h ys))
 all-mapped P h xs ys = rw (map-append h xs ys) (all-append P (map h xs) (map h ys))

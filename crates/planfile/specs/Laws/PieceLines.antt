@@ -11,8 +11,8 @@ use Rattle.planning.specs.Tables.{pieceIn, at, cell}
 use Rattle.planning.specs.Plan.{All}
 use Rattle.planning.specs.Search.{found}
 use Rattle.planning.specs.Sum.{sum, sgn, positives}
+use Rattle.planning.specs.Laws.All.{all-append}
 use Rattle.planfile.specs.FilePlan.{FilePlan, NamedEngine, NamedDelivery, engineNames, deliveryNames}
-use Rattle.planfile.specs.Laws.Listed.{all-append}
 use Rattle.planfile.specs.Numerals.{decimal}
 use Rattle.planfile.specs.Print.{Line, lineOf, pieceLine, rowLines, pieceLines, linesOf}
 

@@ -4,20 +4,22 @@ use mathlib.Core.Path.{_≡_, refl, sym, ap, ap₂, _∙_, subst}
 use mathlib.Core.Logic.{_↔_, Iff·rfl, Iff·trans}
 use Prim.Native.Nat.{ℕ, _+_}
 use native.Mathlib.Omega.{arith}
-use mathlib.Core.List.{List, [], _∷_, _++_, append-nil, append-assoc, nil≢cons, cons≢nil, head-eq-of-cons-eq, tail-eq-of-cons-eq}
+use mathlib.Core.List.{List, [], _∷_, _++_, map, append-nil, append-assoc, nil≢cons, cons≢nil, head-eq-of-cons-eq, tail-eq-of-cons-eq}
 use mathlib.Core.Option.{some, Option·some-inj}
 use Rattle.rfc4180.specs.Fields.{readAll, andThen, fieldValues}
 use Rattle.rfc4180.specs.Text.{ascii}
 use Rattle.rfc4180.specs.Laws.Records.{and-then}
 use Rattle.planning.specs.declared.Mode.{Mode}
 use Rattle.planning.specs.Bounds.{mostMinutes, mostTries}
+use Rattle.planning.specs.Laws.Quiet.{quiet-none, ranges-more}
 use Rattle.planning.specs.Plan.{Within}
-use Rattle.planfile.specs.FilePlan.{FilePlan, NamedEngine, NamedDelivery, begun}
-use Rattle.planfile.specs.Holding.{modeWord, PlanRecord, plan-record, Mixture, mixture-none, mixture-engine, mixture-delivery}
+use Rattle.planning.specs.Quiet.{Quiet, spansOf}
+use Rattle.planfile.specs.FilePlan.{FilePlan, NamedEngine, NamedDelivery, begun, nameAt}
+use Rattle.planfile.specs.Holding.{modeWord, PlanRecord, plan-record, Mixture, mixture-none, mixture-engine, mixture-quiet, mixture-delivery}
 use Rattle.planfile.specs.Numerals.{Numeral}
 use Rattle.planfile.specs.Reading.{accepted, fault, FourFields, readPlan, readRecords, readTexts}
 use Rattle.planfile.specs.Laws.Listed.{listed-front}
-use Rattle.planfile.specs.Laws.Records.{fieldList, fields-iff, SoFar, Added, added-engine, added-delivery, read-record-iff}
+use Rattle.planfile.specs.Laws.Records.{fieldList, fields-iff, SoFar, Added, added-engine, added-quiet, added-delivery, read-record-iff}
 use Rattle.planfile.specs.Laws.Tests.{same-iff, refused-not-accepted, accepted-iff, bind-iff, require-iff, read-number-iff, read-mode-iff}
 
 -- ---- the records behind a plan
@@ -32,7 +34,7 @@ steps-last : {f h g : FilePlan} {x : FourFields} {others : List (List (List ℕ)
 steps-last steps-none a = steps-first a steps-none
 steps-last (steps-first b s) a = steps-first b (steps-last s a)
 
--- they add engines and deliveries alone
+-- they add engines, spans and deliveries alone
 record SameOpening (f g : FilePlan) : Type 0 where
   mode : f .mode ≡ g .mode
   minutes : f .minutes ≡ g .minutes
@@ -42,25 +44,35 @@ steps-opening : {f g : FilePlan} {others : List (List (List ℕ))} → Steps f o
 steps-opening steps-none = record { mode = refl; minutes = refl; allowance = refl }
 steps-opening (steps-first (added-engine kind p q) s) =
     let o = steps-opening s in record { mode = o .mode; minutes = o .minutes; allowance = o .allowance }
+steps-opening (steps-first (added-quiet i kind l named p q) s) =
+    let o = steps-opening s in record { mode = o .mode; minutes = o .minutes; allowance = o .allowance }
 steps-opening (steps-first (added-delivery kind p q) s) =
     let o = steps-opening s in record { mode = o .mode; minutes = o .minutes; allowance = o .allowance }
 
 -- behind a mixture they make a mixture
-steps-mixture : {f g : FilePlan} {records others : List (List (List ℕ))} → Mixture records (f .engines) (f .deliveries) → Steps f others g
-    → Mixture (records ++ others) (g .engines) (g .deliveries)
+steps-mixture : {f g : FilePlan} {records others : List (List (List ℕ))} → Mixture records (f .engines) (f .quiet) (f .deliveries) → Steps f others g
+    → Mixture (records ++ others) (g .engines) (g .quiet) (g .deliveries)
 steps-mixture {records = records} m steps-none = rw (append-nil records) m
 steps-mixture {records = records} m (steps-first {x = x} {others = others} (added-engine kind p q) s) =
     rw (← append-assoc records (fieldList x ∷ []) others) (steps-mixture {records = records ++ fieldList x ∷ []} (rw kind (mixture-engine m _ p q)) s)
+steps-mixture {records = records} m (steps-first {x = x} {others = others} (added-quiet i kind l named p q) s) =
+    rw (← append-assoc records (fieldList x ∷ []) others)
+    (steps-mixture {records = records ++ fieldList x ∷ []} (rw (kind, named) (mixture-quiet m i l _ p q)) s)
 steps-mixture {records = records} m (steps-first {x = x} {others = others} (added-delivery kind p q) s) =
     rw (← append-assoc records (fieldList x ∷ []) others) (steps-mixture {records = records ++ fieldList x ∷ []} (rw kind (mixture-delivery m _ p q)) s)
 
 -- and each mixture is made by such records from nothing on
-mixture-steps : (mode : Mode) (minutes allowance : ℕ) {records : List (List (List ℕ))} {engines : List NamedEngine} {deliveries : List NamedDelivery}
-    → Mixture records engines deliveries
-    → Steps (begun mode minutes allowance) records (record { mode = mode; minutes = minutes; allowance = allowance; engines = engines; deliveries = deliveries })
+mixture-steps : (mode : Mode) (minutes allowance : ℕ) {records : List (List (List ℕ))} {engines : List NamedEngine} {quiet : List Quiet}
+    {deliveries : List NamedDelivery}
+    → Mixture records engines quiet deliveries
+    → Steps (begun mode minutes allowance) records
+    (record { mode = mode; minutes = minutes; allowance = allowance; engines = engines; quiet = quiet; deliveries = deliveries })
 mixture-steps mode minutes allowance mixture-none = steps-none
 mixture-steps mode minutes allowance (mixture-engine {w = w} {f = v} m e p q) =
     steps-last {x = record { first = ascii "engine"; second = e .name; third = w; fourth = v }} (mixture-steps mode minutes allowance m) (added-engine refl p q)
+mixture-steps mode minutes allowance (mixture-quiet {engines = engines} {f = w} {t = v} m i l s p q) =
+    steps-last {x = record { first = ascii "quiet"; second = nameAt (map (λ (e : NamedEngine). e .name) engines) i; third = w; fourth = v }}
+    (mixture-steps mode minutes allowance m) (added-quiet i refl l refl p q)
 mixture-steps mode minutes allowance (mixture-delivery {e = w} {l = v} m d p q) =
     steps-last {x = record { first = ascii "delivery"; second = d .name; third = w; fourth = v }} (mixture-steps mode minutes allowance m)
     (added-delivery refl p q)
@@ -70,10 +82,31 @@ steps-so-far : {f g : FilePlan} {others : List (List (List ℕ))} → Steps f ot
 steps-so-far steps-none t = t
 steps-so-far {f = f} (steps-first (added-engine {watts = watts} {fuel = fuel} kind p q) s) t =
     let u = steps-so-far s t in
-    record { minutes = u .minutes; allowance = u .allowance; engines = listed-front _ _ _ _ (f .engines) _ (u .engines); deliveries = u .deliveries }
+    record {
+      minutes = u .minutes;
+      allowance = u .allowance;
+      engines = listed-front _ _ _ _ (f .engines) _ (u .engines);
+      quiet = u .quiet;
+      deliveries = u .deliveries;
+    }
+steps-so-far {f = f} (steps-first (added-quiet i kind l named p q) s) t =
+    let u = steps-so-far s t in
+    record {
+      minutes = u .minutes;
+      allowance = u .allowance;
+      engines = u .engines;
+      quiet = ranges-more (f .quiet) _ .0 (u .quiet) .0;
+      deliveries = u .deliveries;
+    }
 steps-so-far {f = f} (steps-first (added-delivery {energy = energy} {limit = limit} kind p q) s) t =
     let u = steps-so-far s t in
-    record { minutes = u .minutes; allowance = u .allowance; engines = u .engines; deliveries = listed-front _ _ _ _ (f .deliveries) _ (u .deliveries) }
+    record {
+      minutes = u .minutes;
+      allowance = u .allowance;
+      engines = u .engines;
+      quiet = u .quiet;
+      deliveries = listed-front _ _ _ _ (f .deliveries) _ (u .deliveries);
+    }
 
 -- The texts are records of the grammar, their values are added to f and make g, and g keeps what a plan has to keep.
 pub record Behind (f : FilePlan) (texts : List (List ℕ)) (g : FilePlan) : Type 0 where
@@ -176,6 +209,7 @@ begun-so-far mode minutes allowance v w =
       minutes = v;
       allowance = w;
       engines = record { count = omega arith; inRange = tt; named = tt; unlike = tt };
+      quiet = λ n. unfold spansOf in quiet-none;
       deliveries = record { count = omega arith; inRange = tt; named = tt; unlike = tt };
     }
 
@@ -213,7 +247,7 @@ pub record Recorded (texts : List (List ℕ)) (f : FilePlan) : Type 0 where
   pub others : List (List (List ℕ))
   pub values : readAll fieldValues texts ≡ some (first ∷ others)
   pub planRecord : PlanRecord first (f .mode) (f .minutes) (f .allowance)
-  pub mixture : Mixture others (f .engines) (f .deliveries)
+  pub mixture : Mixture others (f .engines) (f .quiet) (f .deliveries)
   pub soFar : SoFar f
 
 recorded : {text : List ℕ} {x : FourFields} {mode : Mode} {minutes allowance : ℕ} {texts : List (List ℕ)} {f : FilePlan}

@@ -2,7 +2,7 @@
 -- Assumes nothing.
 use mathlib.Core.Path.{_≡_, refl, sym, ap, _∙_, subst}
 use mathlib.Core.Logic.{_↔_, Iff·rfl}
-use Prim.Native.Nat.{ℕ, suc, _-_, _≤_, _<_}
+use Prim.Native.Nat.{ℕ, zero, suc, _-_, _≤_, _<_}
 use native.Mathlib.Omega.{arith}
 use mathlib.Core.Bool.{Bool, true, false, cond, not, _&&_, and-eq-true-iff, false≢true}
 use mathlib.Core.List.{List, [], _∷_, nil≢cons, cons≢nil, cons-eq-cons}
@@ -17,12 +17,19 @@ use Rattle.planning.specs.declared.Mode.the-variants.{Fixed, Shortest}
 use Rattle.planning.specs.declared.Refusal.{Refusal}
 use Rattle.planning.specs.Plan.{All, Within}
 use Rattle.planning.specs.Laws.Numbers.{eqb-iff, within-iff}
+use Rattle.planfile.specs.FilePlan.{nameAt}
 use Rattle.planfile.specs.Bounds.{leastNameByte, mostNameByte}
-use Rattle.planfile.specs.Holding.{SoundName, modeWord}
+use Rattle.planfile.specs.Holding.{SoundName, Unlike, modeWord}
 use Rattle.planfile.specs.Numerals.{digitZero, digitNine, valueBehind, Numeral, numeral-zero, numeral-digits, allDigits, numberOf}
 use Rattle.planfile.specs.Reading.{Read, refused, accepted, _>>=_, fault, require, same, modeBy, readMode, numberBy, readNumber, nameBytes, soundName, unused, placeOf}
 
 -- ---- texts and names
+
+-- what holds of all names holds of each
+pub all-at : (P : List ℕ → Type 0) (names : List (List ℕ)) (i : ℕ) → All P names → i < length names → P (nameAt names i)
+all-at P [] i all l = absurd (omega arith)
+all-at P (name ∷ names) zero all l = all .0
+all-at P (name ∷ names) (suc i) all l = all-at P names i (all .1) (omega arith)
 
 -- `same` compares by value
 pub same-iff : (text other : List ℕ) → (same text other ≡ true) ↔ (text ≡ other)
@@ -76,6 +83,29 @@ unused-place name (other ∷ names) l = go (same name other) (unused-place name 
         → (not t && unused name names) ≡ true
     go true others l = absurd (omega arith)
     go false others l = others (omega arith)
+
+-- the name at that place is it
+pub place-named : (name : List ℕ) (names : List (List ℕ)) → placeOf name names < length names → nameAt names (placeOf name names) ≡ name
+unfolding placeOf
+place-named name [] l = absurd (omega arith)
+place-named name (other ∷ names) l = go (same name other) refl (place-named name names) l
+  where
+    go : (t : Bool) → same name other ≡ t → (placeOf name names < length names → nameAt names (placeOf name names) ≡ name)
+        → cond t 0 (suc (placeOf name names)) < suc (length names) → nameAt (other ∷ names) (cond t 0 (suc (placeOf name names))) ≡ name
+    go true e others l = sym (same-iff name other .0 e)
+    go false e others l = others (omega arith)
+
+-- and where no two names are alike, a name's place is the only one where it stands
+pub place-only : (names : List (List ℕ)) (i : ℕ) → Unlike names → i < length names → placeOf (nameAt names i) names ≡ i
+unfolding placeOf
+place-only [] i u l = absurd (omega arith)
+place-only (name ∷ names) zero u l = rw (same-iff name name .1 refl)
+place-only (name ∷ names) (suc i) u l =
+    rw (other (same (nameAt names i) name) refl, place-only names i (u .1) (omega arith))
+  where
+    other : (t : Bool) → same (nameAt names i) name ≡ t → same (nameAt names i) name ≡ false
+    other true e = absurd (all-at (λ other. name ≡ other → ⊥) names i (u .0) (omega arith) (sym (same-iff _ name .0 e)))
+    other false e = e
 
 -- ---- numbers
 

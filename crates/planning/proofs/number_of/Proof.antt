@@ -32,6 +32,12 @@ enum-told-8 c = search needs
 enum-told-9 : tie.Need-enum-told-9
 enum-told-9 c = search needs
 
+enum-told-10 : tie.Need-enum-told-10
+enum-told-10 c = search needs
+
+enum-told-11 : tie.Need-enum-told-11
+enum-told-11 c = search needs
+
 returns : tie.Need-returns
 unfolding faultNumber
 returns c = search needs
@@ -68,6 +74,14 @@ returns-9 : tie.Need-returns-9
 unfolding faultNumber
 returns-9 c = search needs
 
+returns-10 : tie.Need-returns-10
+unfolding faultNumber
+returns-10 c = search needs
+
+returns-11 : tie.Need-returns-11
+unfolding faultNumber
+returns-11 c = search needs
+
 pub number-of-spec : {M : Type 1} → statement M
 number-of-spec =
     tie.close
@@ -81,6 +95,8 @@ number-of-spec =
     enum-told-7
     enum-told-8
     enum-told-9
+    enum-told-10
+    enum-told-11
     returns
     returns-2
     returns-3
@@ -89,4 +105,6 @@ number-of-spec =
     returns-6
     returns-7
     returns-8
-    returns-9)
+    returns-9
+    returns-10
+    returns-11)

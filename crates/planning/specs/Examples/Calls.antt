@@ -12,14 +12,19 @@ use Rattle.planning.specs.declared.Mode.{Mode}
 use Rattle.planning.specs.declared.Mode.the-variants.{Fixed, Shortest}
 use Rattle.planning.specs.declared.Outcome.the-variants.{Found, None, Stopped}
 use Rattle.planning.specs.Examples.Evaluation.{evaluated}
-use Rattle.planning.specs.Numbers.{Call, callOn, enginesOf, deliveriesOf, planOf, within, engineFault, deliveryFault, refusalOf}
+use Rattle.planning.specs.Numbers.{Call, callOn, quietOf, enginesOf, deliveriesOf, planOf, within, engineFault, deliveryFault, quietFault, checkQuiet, refusalOf}
 use Rattle.planning.specs.Numbers.{answeredBy, allocation, unlessRefused, tableOnExit, spareOnExit}
+use Rattle.planning.specs.Quiet.{spansOf, clear, clearOf, fits}
 use Rattle.planning.specs.Refusals.{check, _then_, checkEach}
 
--- a call that is lent a table and a spare list of those lengths, each filled with a pattern
+-- a call with quiet spans, or without, that is lent a table and a spare list of those lengths, each filled with a pattern
+unfoldable pub quietCall : Mode → (minutes allowance : ℕ) → (watts fuels energies limits quiet : List ℕ) → (table spare : ℕ) → Call
+quietCall mode minutes allowance watts fuels energies limits quiet table spare =
+    callOn mode minutes allowance watts fuels energies limits quiet (replicate table 7) (replicate spare 8)
+
 call : Mode → (minutes allowance : ℕ) → (watts fuels energies limits : List ℕ) → (table spare : ℕ) → Call
-call mode minutes allowance watts fuels energies limits table spare =
-    callOn mode minutes allowance watts fuels energies limits (replicate table 7) (replicate spare 8)
+unfolding quietCall
+call mode minutes allowance watts fuels energies limits table spare = quietCall mode minutes allowance watts fuels energies limits [] table spare
 
 -- a call with what it returns and what is then in the lent lists
 pub record CallExample : Type 0 where
@@ -29,7 +34,7 @@ pub record CallExample : Type 0 where
   pub spare : List ℕ
 
 -- a call that is turned down: nothing lent is changed
-turnedDown : Fault → (place : ℕ) → Call → CallExample
+unfoldable pub turnedDown : Fault → (place : ℕ) → Call → CallExample
 turnedDown fault place given =
     record {
       given = given;
@@ -39,8 +44,8 @@ turnedDown fault place given =
     }
 
 -- what the definitions make of a call
-pub called : Call → CallExample
-unfolding evaluated enginesOf deliveriesOf planOf within engineFault deliveryFault refusalOf answeredBy allocation unlessRefused tableOnExit spareOnExit check _then_ checkEach zipWith
+unfoldable pub called : Call → CallExample
+unfolding evaluated quietOf enginesOf deliveriesOf planOf within engineFault deliveryFault spansOf clear clearOf fits quietFault checkQuiet refusalOf answeredBy allocation unlessRefused tableOnExit spareOnExit check _then_ checkEach zipWith
 called given = record { given = given; answer = allocation given; table = tableOnExit given; spare = spareOnExit given }
 
 pub calls : List CallExample

@@ -8,12 +8,13 @@ use Rattle.planning.specs.Capacity.{capacity, capacities}
 use Rattle.planning.specs.Modes.{searchAt, plannedAt, byOutcome, whileAbove, bisect, shortest, plannedIn, planned, spares, tableBy, tableAfter, sparesBy, sparesAfter, outcomeOf, triesOf, answerOf}
 use Rattle.planning.specs.Tables.{listed, pieceIn, overFront, cell}
 use Rattle.planning.specs.Plan.{Plan, Engine, Delivery}
+use Rattle.planning.specs.Quiet.{lies, runs, running}
 use Rattle.planning.specs.Search.{total, comesFirst, bulkier, replaces, withDelivery, bulkiestOf, smaller, smallestOf, smallest, stepBy, stepWith, stepOf, canLay, afterLaying, canCut, afterCutting, drawn, undrawn, straightFill, withPiece, orElse, permitted, permission, oneEngine, eachEngine, perform, size, searchWithin, searchFrom, unlessTooMuch, searched}
 use Rattle.planning.specs.Sum.{sum, sgn, positives}
 
--- an engine with watts and fuel, a delivery with energy and limit
+-- an engine with watts and fuel that is never quiet, a delivery with energy and limit
 unfoldable pub engine : ℕ → ℕ → Engine
-engine w f = record { watts = w; fuel = f }
+engine w f = record { watts = w; fuel = f; quiet = [] }
 
 unfoldable pub delivery : ℕ → ℕ → Delivery
 delivery e l = record { energy = e; limit = l }
@@ -30,7 +31,7 @@ pub record Example : Type 0 where
 
 -- what the definitions make of a plan
 unfoldable pub evaluated : Plan → Example
-unfolding sum sgn positives capacity capacities total comesFirst bulkier replaces withDelivery bulkiestOf smaller smallestOf smallest stepBy stepWith stepOf canLay afterLaying canCut afterCutting drawn undrawn straightFill cell withPiece orElse permitted permission oneEngine eachEngine perform size searchWithin searchFrom unlessTooMuch searched searchAt plannedAt byOutcome whileAbove bisect shortest plannedIn planned listed pieceIn spares overFront tableBy tableAfter sparesBy sparesAfter outcomeOf triesOf answerOf
+unfolding sum sgn positives lies runs running capacity capacities total comesFirst bulkier replaces withDelivery bulkiestOf smaller smallestOf smallest stepBy stepWith stepOf canLay afterLaying canCut afterCutting drawn undrawn straightFill cell withPiece orElse permitted permission oneEngine eachEngine perform size searchWithin searchFrom unlessTooMuch searched searchAt plannedAt byOutcome whileAbove bisect shortest plannedIn planned listed pieceIn spares overFront tableBy tableAfter sparesBy sparesAfter outcomeOf triesOf answerOf
 evaluated p = record { given = p; answer = answerOf (planned p); table = tableAfter p []; spare = sparesAfter p [] }
 
 -- each example of a list is what the definitions make of its plan

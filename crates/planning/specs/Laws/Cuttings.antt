@@ -10,8 +10,10 @@ use Rattle.planning.specs.declared.Mode.the-variants.{Fixed}
 use Rattle.planning.specs.Sum.{sum, sgn, positives}
 use Rattle.planning.specs.Plan.{Plan, Engine}
 use Rattle.planning.specs.Capacity.{capacity, capacities}
+use Rattle.planning.specs.Quiet.{runs, running}
 use Rattle.planning.specs.Cutting.{Cuts, Serves, Served}
 use Rattle.planning.specs.Laws.Finite.Sums.{positives-mono, sum-scale}
+use Rattle.planning.specs.Laws.Quiet.{running-mono}
 
 -- Each piece times k, of a part k times as small.
 pub cutting-scales : {n : ℕ} {capacity energy limit : List ℕ} {x : ℕ → ℕ → ℕ} (k : ℕ) → 1 ≤ k → Cuts n capacity energy limit x
@@ -59,7 +61,7 @@ cutting-stays {n} {capacity} {energy} {limit} {x} capacity′ limit′ same more
 -- Capacity never falls as the minutes grow.
 pub capacity-mono : (e : Engine) (T T′ : ℕ) → T ≤ T′ → capacity e T ≤ capacity e T′
 unfolding capacity
-capacity-mono e T T′ l = omega (arith, mul-le-mul-left (e .watts) l)
+capacity-mono e T T′ l = omega (arith, mul-le-mul-left (e .watts) (running-mono (e .quiet) T T′ l))
 
 entry-mono : {A : Type 0} (f g : A → ℕ) → ((a : A) → f a ≤ g a) → (xs : List A) (i : ℕ) → getD (map f xs) i 0 ≤ getD (map g xs) i 0
 entry-mono f g h [] i = omega arith
@@ -85,12 +87,12 @@ two-engines =
       mode = Fixed;
       minutes = 1;
       allowance = 0;
-      engines = record { watts = 60; fuel = 1 } ∷ record { watts = 60; fuel = 1 } ∷ [];
+      engines = record { watts = 60; fuel = 1; quiet = [] } ∷ record { watts = 60; fuel = 1; quiet = [] } ∷ [];
       deliveries = record { energy = 1; limit = 2 } ∷ [];
     }
 
 pub halves-serve : Serves 2 two-engines 1 (λ p i. 1)
-unfolding two-engines capacities capacity sum positives sgn
+unfolding two-engines capacities capacity running runs sum positives sgn
 halves-serve = record { fromOne = omega arith; fits = record { whole = whole; within = within; few = few } }
   where
     whole : (p : ℕ) → p < 1 → sum 2 (λ i. 1) ≡ 2 * getD (1 ∷ []) p 0

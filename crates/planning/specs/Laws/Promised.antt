@@ -3,7 +3,7 @@
 use mathlib.Core.Path.{_≡_, refl, sym, ap, _∙_}
 use mathlib.Core.Logic.{_≢_}
 use mathlib.Core.Bool.{Bool}
-use mathlib.Core.List.{List, [], _∷_, zipWith}
+use mathlib.Core.List.{List, [], _∷_, _++_, zipWith}
 use mathlib.Core.Option.{Option, none as unrefused, some}
 use Prim.Native.Nat.{ℕ, _+_, _≤_, _<_}
 use lib.ListN.{length}
@@ -12,20 +12,21 @@ use Rattle.planning.specs.declared.Allocation.{Allocation}
 use Rattle.planning.specs.declared.Allocation.the-variants.{Answered, Refused}
 use Rattle.planning.specs.declared.Answer.{Answer}
 use Rattle.planning.specs.declared.Fault.{Fault}
-use Rattle.planning.specs.declared.Fault.the-variants.{Fields, NoEngine, Count, Space, Value}
+use Rattle.planning.specs.declared.Fault.the-variants.{Fields, NoEngine, Count, Space, Value, UnknownEngine, QuietSpan}
 use Rattle.planning.specs.declared.Outcome.the-variants.{Found}
 use Rattle.planning.specs.declared.Refusal.{Refusal}
 use Rattle.planning.specs.Capacity.{capacities}
 use Rattle.planning.specs.Cutting.{Serves}
 use Rattle.planning.specs.Laws.Lent.{refused-keeps}
-use Rattle.planning.specs.Laws.Numbers.{unrefused-iff}
+use Rattle.planning.specs.Laws.Numbers.{unrefused-iff, engine-count}
 use Rattle.planning.specs.Laws.OnExit.{count-engines, count-deliveries, found-table, found-spare, kept-table, kept-spare}
 use Rattle.planning.specs.Laws.Promises.{none-exactly, shortest-time, fixed-time, found-serves, found-spares, stopped-exactly, stopped-tries}
 use Rattle.planning.specs.Laws.Refusals.{Only, only-check, only-then, only-each}
 use Rattle.planning.specs.Modes.{planned, answerOf, outcomeOf}
-use Rattle.planning.specs.Numbers.{Call, Accepted, enginesOf, deliveriesOf, planOf, engineFault, deliveryFault, refusalOf, answeredBy, allocation, tableOnExit, spareOnExit}
+use Rattle.planning.specs.Numbers.{Call, Accepted, quietOf, enginesOf, deliveriesOf, planOf, engineFault, deliveryFault, quietFault, checkQuiet, refusalOf, answeredBy, allocation, tableOnExit, spareOnExit}
 use Rattle.planning.specs.Plan.{Engine, Delivery}
 use Rattle.planning.specs.Promises.{FaultOnNumbers, recordsOf, Promised}
+use Rattle.planning.specs.Quiet.{Quiet}
 use Rattle.planning.specs.Refusals.{check}
 use Rattle.planning.specs.Search.{Result, found, none, stopped}
 use Rattle.planning.specs.Sum.{sum}
@@ -44,20 +45,31 @@ module _ (records : ℕ) where
   abbrev onNumbers : Fault → ℕ → Type 0
   onNumbers = FaultOnNumbers records
 
-  value-at : (t : Bool) (r : ℕ) → 1 ≤ r → r ≤ records → Only onNumbers (check t Value r)
+  value-at : (t : Bool) (r : ℕ) → r ≤ records → Only onNumbers (check t Value r)
   unfolding FaultOnNumbers
-  value-at t r h k = only-check onNumbers t Value r (record { least = h; most = k })
+  value-at t r k = only-check onNumbers t Value r (record { least = omega arith; most = k })
 
   engine-value : (r : ℕ) (e : Engine) → 1 ≤ r → r ≤ records → Only onNumbers (engineFault r e)
   unfolding engineFault
-  engine-value r e h k = only-then onNumbers (value-at _ r h k) (value-at _ r h k)
+  engine-value r e h k = only-then onNumbers (value-at _ r k) (value-at _ r k)
 
   delivery-value : (r : ℕ) (d : Delivery) → 1 ≤ r → r ≤ records → Only onNumbers (deliveryFault r d)
   unfolding deliveryFault
-  delivery-value r d h k = only-then onNumbers (value-at _ r h k) (value-at _ r h k)
+  delivery-value r d h k = only-then onNumbers (value-at _ r k) (value-at _ r k)
+
+  -- of a quiet span all at place 0
+  quiet-value : (engines : ℕ) (earlier quiet : List Quiet) → Only onNumbers (checkQuiet engines earlier quiet)
+  unfolding checkQuiet quietFault FaultOnNumbers
+  quiet-value engines earlier [] = λ refusal e. let z : _≡_ {A = ℕ} 0 1 = cc in absurd (omega arith)
+  quiet-value engines earlier (q ∷ quiet) =
+      only-then onNumbers
+      (only-then onNumbers (value-at _ 0 (omega arith))
+      (only-then onNumbers (value-at _ 0 (omega arith))
+      (only-then onNumbers (only-check onNumbers _ UnknownEngine 0 refl) (only-check onNumbers _ QuietSpan 0 refl))))
+      (quiet-value engines (earlier ++ q ∷ []) quiet)
 
 refusal-on-numbers : (call : Call) → Only (FaultOnNumbers (recordsOf call)) (refusalOf call)
-unfolding refusalOf planOf enginesOf deliveriesOf FaultOnNumbers
+unfolding refusalOf planOf deliveriesOf FaultOnNumbers
 refusal-on-numbers call =
     let last = recordsOf call in
     let on = FaultOnNumbers last in
@@ -65,21 +77,25 @@ refusal-on-numbers call =
     let no-engine : (t : Bool) → Only on (check t NoEngine 0) = λ t. only-check on t NoEngine 0 refl in
     let count : (t : Bool) → Only on (check t Count 0) = λ t. only-check on t Count 0 refl in
     let space : (t : Bool) → Only on (check t Space 0) = λ t. only-check on t Space 0 refl in
-    let engines = few-pairs {C = Engine} (λ (w f : ℕ). record { watts = w; fuel = f }) (call .watts) (call .fuels) in
+    let quiet = quietOf (call .quiet) in
+    let engines = engine-count (call .watts) (call .fuels) quiet in
     let deliveries = few-pairs {C = Delivery} (λ (e l : ℕ). record { energy = e; limit = l }) (call .energies) (call .limits) in
     only-then on (fields _)
+    (only-then on (fields _)
     (only-then on (fields _)
     (only-then on (no-engine _)
     (only-then on (count _)
     (only-then on (count _)
     (only-then on (space _)
     (only-then on (space _)
-    (only-then on (value-at last _ 1 (omega arith) (omega arith))
-    (only-then on (value-at last _ 1 (omega arith) (omega arith))
+    (only-then on (value-at last _ 1 (omega arith))
+    (only-then on (value-at last _ 1 (omega arith))
     (only-then on
-    (only-each on engineFault last (engine-value last) 2 (enginesOf (call .watts) (call .fuels)) (omega arith) (omega (arith, engines)))
+    (only-each on engineFault last (engine-value last) 2 (enginesOf (call .watts) (call .fuels) quiet) (omega arith) (omega (arith, engines)))
+    (only-then on
     (only-each on deliveryFault last (delivery-value last) (2 + length (call .watts)) (deliveriesOf (call .energies) (call .limits))
-    (omega arith) (omega (arith, deliveries))))))))))))
+    (omega arith) (omega (arith, deliveries)))
+    (quiet-value last (length (call .watts)) [] quiet))))))))))))
 
 -- ---- the result taken apart
 

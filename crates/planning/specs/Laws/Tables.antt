@@ -1,7 +1,7 @@
 -- Lists given place by place: their lengths and entries, and what holds of each entry.
 -- Assumes nothing.
 use mathlib.Core.Path.{_≡_, refl, ap, ap₂}
-use mathlib.Core.List.{List, [], _∷_, map, zipWith}
+use mathlib.Core.List.{List, [], _∷_, _++_, map, zipWith}
 use Prim.Native.Nat.{ℕ, zero, suc, _≤_, _<_}
 use native.Mathlib.Nat.{suc-inj}
 use native.Mathlib.Omega.{arith}
@@ -30,6 +30,12 @@ unfolding listed
 listed-same zero f g e = refl
 listed-same (suc n) f g e = ap₂ _∷_ (e 0 (omega arith)) (listed-same n (λ k. f (suc k)) (λ k. g (suc k)) (λ k l. e (suc k) (omega arith)))
 
+-- one item more, behind the others
+pub listed-last : {A : Type 0} (n : ℕ) (f : ℕ → A) → listed (suc n) f ≡ listed n f ++ f n ∷ []
+unfolding listed
+listed-last zero f = refl
+listed-last (suc n) f = ap (λ (items : List _). f 0 ∷ items) (listed-last n (λ k. f (suc k)))
+
 -- each item changed
 pub map-listed : {A B : Type 0} (h : A → B) (n : ℕ) (f : ℕ → A) → map h (listed n f) ≡ listed n (λ k. h (f k))
 unfolding listed
@@ -42,6 +48,11 @@ unfolding listed
 listed-each P zero f h k l = absurd (omega arith)
 listed-each P (suc n) f h zero l = h .0
 listed-each P (suc n) f h (suc k) l = listed-each P n (λ j. f (suc j)) (h .1) k (omega arith)
+
+pub listed-all : {A : Type 0} (P : A → Type 0) (n : ℕ) (f : ℕ → A) → ((k : ℕ) → k < n → P (f k)) → All P (listed n f)
+unfolding listed
+listed-all P zero f h = tt
+listed-all P (suc n) f h = (h 0 (omega arith), listed-all P n (λ j. f (suc j)) (λ k l. h (suc k) (omega arith)))
 
 -- the front of a list, and two lists paired, place by place
 pub listed-take : (n : ℕ) (xs : List ℕ) → n ≤ length xs → listed n (λ k. at xs k) ≡ take n xs

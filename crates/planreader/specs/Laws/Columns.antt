@@ -7,15 +7,16 @@ use native.Mathlib.Nat.{sub-zero}
 use native.Mathlib.Omega.{arith}
 use lib.ListN.{length, take, drop, set, replicate, length-append, length-map, length-replicate, replicate-append-replicate}
 use lib.Seq.{append-snoc, take-append-seam, take-at, drop-append-add, set-at}
+use Rattle.planning.specs.Laws.All.{all-append}
+use Rattle.planning.specs.Laws.Padded.{length-padded}
 use Rattle.planning.specs.Laws.Tables.{listed-same}
 use Rattle.planning.specs.Plan.{All}
 use Rattle.planning.specs.Tables.{at, listed, padded}
 use Rattle.planfile.specs.Bounds.{mostNameBytes}
-use Rattle.planfile.specs.Laws.Listed.{all-append}
 use Rattle.planfile.specs.Reading.{Figures}
 use Rattle.planreader.specs.Columns.{Item, Columns, cells, columnsOf}
 use Rattle.planreader.specs.Items.{withItem}
-use Rattle.planreader.specs.Plans.{nameAt, nameList, itemsIn, Holding}
+use Rattle.planreader.specs.Plans.{nameAt, nameList, NamesHeld, itemsIn, Holding}
 use Rattle.planreader.specs.Records.{Filled}
 
 -- ---- lists made longer with zeros
@@ -23,17 +24,13 @@ use Rattle.planreader.specs.Records.{Filled}
 abbrev zeros : ℕ → List ℕ
 zeros n = replicate n 0
 
-length-padded : (n : ℕ) (xs : List ℕ) → length xs ≤ n → length (padded n xs) ≡ n
-unfolding padded
-length-padded n xs l = omega (arith, length-append xs (zeros (n - length xs)), length-replicate {A = ℕ} (n - length xs) 0)
-
 drop-zeros : (l n : ℕ) → drop l (zeros n) ≡ zeros (n - l)
 drop-zeros zero n = let all : n ≡ n - 0 = omega arith in ap zeros all
 drop-zeros (suc l) zero = let none : 0 ≡ 0 - suc l = omega arith in ap zeros none
 drop-zeros (suc l) (suc n) = let less : n - l ≡ suc n - suc l = omega arith in drop-zeros l n ∙ ap zeros less
 
 -- a number stored behind the first n
-padded-set : (m n : ℕ) (xs : List ℕ) (v : ℕ) → n ≡ length xs → n < m → set (padded m xs) n v ≡ padded m (xs ++ v ∷ [])
+pub padded-set : (m n : ℕ) (xs : List ℕ) (v : ℕ) → n ≡ length xs → n < m → set (padded m xs) n v ≡ padded m (xs ++ v ∷ [])
 unfolding padded
 padded-set m n xs v count room =
     let more : m - length xs ≡ suc (m - (length xs + 1)) = omega arith in
@@ -173,6 +170,10 @@ sizes-short : (items : List Item) (zs : List ℕ) → Short items → (k : ℕ) 
 sizes-short [] zs s k l = absurd (omega arith)
 sizes-short (item ∷ items) zs s zero l = s .0
 sizes-short (item ∷ items) zs s (suc k) l = sizes-short items zs (s .1) k (omega arith)
+
+-- whole lists have places for the names
+pub holding-names : {n most : ℕ} {c : Columns} → Holding n most c → NamesHeld n (c .names) (c .sizes)
+holding-names h = record { room = omega (arith, h .room, h .names); sized = omega (arith, h .room, h .sizes); short = h .short }
 
 -- the lists are whole
 pub filled-holding : {most n : ℕ} {items : List Item} {c : Columns} → Filled most items n c → Holding n most c

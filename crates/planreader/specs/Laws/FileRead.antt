@@ -65,15 +65,15 @@ module _ (file : List ℕ) (least : 1 ≤ length file) (most : length file ≤ m
 -- ---- what is handed back
 
 -- a refusal
-pub counted-refused : (m : Read FilePlan) (mode : Mode) (minutes allowance : ℕ) (e d : Columns) (refusal : Refusal)
-    → ItemsBy m mode minutes allowance e d (counted.Refused refusal) → m ≡ refused refusal
+pub counted-refused : (m : Read FilePlan) (mode : Mode) (minutes allowance : ℕ) (e d : Columns) (q : List ℕ) (refusal : Refusal)
+    → ItemsBy m mode minutes allowance e q d (counted.Refused refusal) → m ≡ refused refusal
 unfolding ItemsBy
-counted-refused (refused other) mode minutes allowance e d refusal h = let same : refusal ≡ other = cc in rw same
-counted-refused (accepted f) mode minutes allowance e d refusal (es, ds, g, h, p, q) = let z : _≡_ {A = ℕ} 0 1 = cc in absurd (omega arith)
+counted-refused (refused other) mode minutes allowance e d q refusal h = let same : refusal ≡ other = cc in rw same
+counted-refused (accepted f) mode minutes allowance e d q refusal (es, qs, ds, g, h, in-e, in-q, in-d) = let z : _≡_ {A = ℕ} 0 1 = cc in absurd (omega arith)
 
 -- or the plan in the columns
-abbrev pub readingIn : Mode → (minutes allowance engines deliveries : ℕ) → (e d : Columns) → Reading
-readingIn mode minutes allowance engines deliveries e d =
+abbrev pub readingIn : Mode → (minutes allowance engines spans deliveries : ℕ) → (e d : Columns) → (q : List ℕ) → Reading
+readingIn mode minutes allowance engines spans deliveries e d q =
     record {
       verdict = Accepted;
       plan =
@@ -86,6 +86,8 @@ readingIn mode minutes allowance engines deliveries e d =
             «engine_sizes» = e .sizes;
             watts = e .firsts;
             fuels = e .seconds;
+            spans = spans;
+            quiet = q;
             deliveries = deliveries;
             «delivery_names» = d .names;
             «delivery_sizes» = d .sizes;
@@ -94,11 +96,13 @@ readingIn mode minutes allowance engines deliveries e d =
           };
     }
 
-pub counted-items : (m : Read FilePlan) (mode : Mode) (minutes allowance engines deliveries : ℕ) (e d : Columns)
-    → ItemsBy m mode minutes allowance e d (counted.Items engines deliveries) → readingIn mode minutes allowance engines deliveries e d ≡ readingOf m
+pub counted-items : (m : Read FilePlan) (mode : Mode) (minutes allowance engines spans deliveries : ℕ) (e d : Columns) (q : List ℕ)
+    → ItemsBy m mode minutes allowance e q d (counted.Items engines spans deliveries)
+    → readingIn mode minutes allowance engines spans deliveries e d q ≡ readingOf m
 unfolding ItemsBy readingOf byValue
-counted-items (refused other) mode minutes allowance engines deliveries e d h = let z : _≡_ {A = ℕ} 0 1 = cc in absurd (omega arith)
-counted-items (accepted f) mode minutes allowance engines deliveries e d (es, ds, g, h, p, q) =
+counted-items (refused other) mode minutes allowance engines spans deliveries e d q h = let z : _≡_ {A = ℕ} 0 1 = cc in absurd (omega arith)
+counted-items (accepted f) mode minutes allowance engines spans deliveries e d q (es, qs, ds, g, h, in-e, in-q, in-d) =
     let a : engines ≡ length es = cc in
-    let b : deliveries ≡ length ds = cc in
-    rw (g, a, b, p, q)
+    let b : spans ≡ length qs = cc in
+    let c : deliveries ≡ length ds = cc in
+    rw (g, a, b, c, in-e, in-q, in-d)

@@ -1,6 +1,6 @@
 -- What a caller has of a reading: a plan exactly where the file holds one, and then that plan, in range and with sound names, or the file's refusal.
 -- Assumes nothing.
-use mathlib.Core.Path.{_≡_, refl, sym, ap₂, _∙_, subst}
+use mathlib.Core.Path.{_≡_, refl, sym, _∙_, subst}
 use mathlib.Core.Logic.{_↔_}
 use mathlib.Core.List.{List, [], _∷_, map, map-id, map-map}
 use Prim.Native.Nat.{ℕ, _≤_}
@@ -8,17 +8,19 @@ use native.Mathlib.Omega.{arith}
 use lib.ListN.{length, length-map}
 use Rattle.planning.specs.declared.Refusal.{Refusal}
 use Rattle.planning.specs.declared.Verdict.the-variants.{Accepted, Refused}
+use Rattle.planning.specs.Laws.Quiet.{few-spans}
 use Rattle.planning.specs.Plan.{All, InRange}
 use Rattle.planfile.specs.Bounds.{mostNameBytes}
 use Rattle.planfile.specs.FilePlan.{FilePlan, engineOf, deliveryOf, unnamed, engineNames, deliveryNames}
 use Rattle.planfile.specs.Holding.{SoundName, Unlike, Holds}
-use Rattle.planfile.specs.Laws.Holding.{engine-count, delivery-count, accepted-holds, holds-accepted}
+use Rattle.planfile.specs.Laws.Holding.{engine-count, delivery-count, mixture-known, plan-quiet, accepted-holds, holds-accepted}
 use Rattle.planfile.specs.Reading.{Read, refused, accepted, readFile}
 use Rattle.planreader.specs.declared.Reading.{Reading}
-use Rattle.planreader.specs.Columns.{Item, engineItem, deliveryItem, engineColumnsOf, deliveryColumnsOf, byValue, readingOf}
+use Rattle.planreader.specs.Columns.{Item, engineItem, deliveryItem, engineColumnsOf, quietColumnOf, deliveryColumnsOf, byValue, readingOf}
 use Rattle.planreader.specs.Laws.Columns.{filled-items, filled-holding}
+use Rattle.planreader.specs.Laws.Quiet.{quiet-back, spans-held}
 use Rattle.planreader.specs.Plans.{planBy, UsablePlan}
-use Rattle.planreader.specs.Records.{EnginesIn, DeliveriesIn}
+use Rattle.planreader.specs.Records.{EnginesIn, SpansIn, DeliveriesIn}
 
 -- ---- the plan that a file holds, by value
 
@@ -38,6 +40,18 @@ module _ {bytes : List ℕ} {f : FilePlan} (h : Holds bytes f) where
         columns = refl;
       }
 
+  quiet-in : SpansIn (length (f .engines)) (f .quiet) (length (f .quiet)) (quietColumnOf (f .quiet))
+  quiet-in =
+      let known = mixture-known (h .mixture) in
+      let ranges = plan-quiet f (h .inRange) known in
+      record {
+        count = refl;
+        room = omega (arith, few-spans (length (f .engines)) (f .quiet) known ranges, engines-in .room);
+        filled = refl;
+        known = known;
+        ranges = ranges;
+      }
+
   deliveries-in : DeliveriesIn (f .deliveries) (length (f .deliveries)) (deliveryColumnsOf (f .deliveries))
   deliveries-in =
       record {
@@ -51,9 +65,11 @@ module _ {bytes : List ℕ} {f : FilePlan} (h : Holds bytes f) where
   pub plan-back : planBy (byValue f) ≡ f
   unfolding byValue
   plan-back =
-      ap₂ (λ es ds. record { mode = f .mode; minutes = f .minutes; allowance = f .allowance; engines = es; deliveries = ds })
-      (filled-items engines-in engineOf ∙ map-map _ engineItem (f .engines) ∙ map-id (f .engines))
-      (filled-items deliveries-in deliveryOf ∙ map-map _ deliveryItem (f .deliveries) ∙ map-id (f .deliveries))
+      rw (
+        filled-items engines-in engineOf ∙ map-map _ engineItem (f .engines) ∙ map-id (f .engines),
+        quiet-back (f .quiet),
+        filled-items deliveries-in deliveryOf ∙ map-map _ deliveryItem (f .deliveries) ∙ map-id (f .deliveries),
+      )
 
   -- and can be planned and printed
   pub plan-usable : UsablePlan (byValue f)
@@ -61,6 +77,7 @@ module _ {bytes : List ℕ} {f : FilePlan} (h : Holds bytes f) where
   plan-usable =
       record {
         engines = filled-holding engines-in;
+        quiet = spans-held quiet-in;
         deliveries = filled-holding deliveries-in;
         inRange = subst (λ g. InRange (unnamed g)) (sym plan-back) (h .inRange);
         enginesNamed = subst (λ g. All SoundName (engineNames g)) (sym plan-back) (h .enginesNamed);

@@ -6,10 +6,10 @@ use Rattle.exhaustive_test.proofs.comparison.spares_right.Statement.{st
 use Rattle.exhaustive_test.proofs.comparison.spares_right.Tie as tie
 
 abbrev Inv-loop : tie.InvT-loop
-Inv-loop plan answer i₀ i = Unit {0}
+Inv-loop task answer i₀ i = Unit {0}
 
 abbrev μ-loop : tie.MeasureT-loop
-μ-loop plan answer i₀ i = plan .engines - i
+μ-loop task answer i₀ i = task .engines - i
 
 loop-holds : tie.Need-loop-holds Inv-loop μ-loop
 loop-holds c = search needs
@@ -23,8 +23,8 @@ entry-requires c κs = search needs
 plus-requires : tie.Need-plus-requires Inv-loop μ-loop
 plus-requires c κs = search needs
 
-capacity-requires : tie.Need-capacity-requires Inv-loop μ-loop
-capacity-requires c κs = search needs
+entry-requires-2 : tie.Need-entry-requires-2 Inv-loop μ-loop
+entry-requires-2 c κs = search needs
 
 returns : tie.Need-returns Inv-loop μ-loop
 returns c = search needs
@@ -51,7 +51,7 @@ spares-right-spec =
     given-requires
     entry-requires
     plus-requires
-    capacity-requires
+    entry-requires-2
     returns
     add-i
     loop-less

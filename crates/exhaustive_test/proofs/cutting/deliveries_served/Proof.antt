@@ -6,10 +6,10 @@ use Rattle.exhaustive_test.proofs.cutting.deliveries_served.Statement.{
 use Rattle.exhaustive_test.proofs.cutting.deliveries_served.Tie as tie
 
 abbrev Inv-loop : tie.InvT-loop
-Inv-loop plan parts table i₀ i = Unit {0}
+Inv-loop task parts table i₀ i = Unit {0}
 
 abbrev μ-loop : tie.MeasureT-loop
-μ-loop plan parts table i₀ i = plan .deliveries - i
+μ-loop task parts table i₀ i = task .deliveries - i
 
 loop-holds : tie.Need-loop-holds Inv-loop μ-loop
 loop-holds c = search needs

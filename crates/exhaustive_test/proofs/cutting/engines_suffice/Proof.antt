@@ -6,10 +6,10 @@ use Rattle.exhaustive_test.proofs.cutting.engines_suffice.Statement.{st
 use Rattle.exhaustive_test.proofs.cutting.engines_suffice.Tie as tie
 
 abbrev Inv-loop : tie.InvT-loop
-Inv-loop plan minutes parts table i₀ i = Unit {0}
+Inv-loop task parts table i₀ i = Unit {0}
 
 abbrev μ-loop : tie.MeasureT-loop
-μ-loop plan minutes parts table i₀ i = plan .engines - i
+μ-loop task parts table i₀ i = task .engines - i
 
 loop-holds : tie.Need-loop-holds Inv-loop μ-loop
 loop-holds c = search needs

@@ -18,7 +18,7 @@ use Rattle.exhaustive_test.proofs.exhaustive.+continues.{statement}
 use Rattle.exhaustive_test.proofs.exhaustive.+continues.Tie.{close}
 
 abbrev μ-continues : Measures 0 continues-kinds.ps ℕ
-μ-continues κs a = 20 - a .1 .1 .1 .1 .0
+μ-continues κs a = 20 - a .1 .1 .1 .0
 
 abbrev continues-at : ℕ → In 0 continues-kinds.ps
 continues-at t = and 0 continues-kinds.ps (is 0 continues-kinds.ps μ-continues t) continues.Pre
@@ -43,10 +43,10 @@ claims t = (
 )
 
 abbrev Inv-loop : continues-lts.InvT-loop
-Inv-loop plan minutes parts at most tried₀ piece₀ tried piece = length tried ≡ 20
+Inv-loop task parts at most tried₀ piece₀ tried piece = length tried ≡ 20
 
 abbrev μ-loop : continues-lts.MeasureT-loop
-μ-loop plan minutes parts at most tried₀ piece₀ tried piece = most + 1 - piece
+μ-loop task parts at most tried₀ piece₀ tried piece = most + 1 - piece
 
 cells-of-requires : (t : ℕ) → continues-lts.Need-cells-of-requires (claims t) (continues-at t) continues.Post Inv-loop μ-loop
 cells-of-requires t c κs = search needs

@@ -14,6 +14,9 @@ abbrev μ-loop : tie.MeasureT-loop
 loop-holds : tie.Need-loop-holds Inv-loop μ-loop
 loop-holds c = search needs
 
+task-of-requires : tie.Need-task-of-requires Inv-loop μ-loop
+task-of-requires c κs = search needs
+
 continues-requires : tie.Need-continues-requires Inv-loop μ-loop
 continues-requires c κs = search needs
 
@@ -39,6 +42,7 @@ first-served-spec =
     Inv-loop
     μ-loop
     loop-holds
+    task-of-requires
     continues-requires
     returns
     add-minutes

@@ -7,7 +7,7 @@ use Prim.Native.Nat.{ℕ, _≤_}
 use native.Mathlib.Omega.{arith}
 use lib.ListN.{length}
 use Rattle.planning.specs.declared.Fault.{Fault}
-use Rattle.planning.specs.declared.Fault.the-variants.{Size, Grammar, Fields, Kind, Name, Value, Count, NoEngine, Space}
+use Rattle.planning.specs.declared.Fault.the-variants.{Size, Grammar, Fields, Kind, Name, Value, Count, NoEngine, Space, UnknownEngine, QuietSpan}
 use Rattle.planning.specs.declared.Refusal.{Refusal}
 use Rattle.planning.specs.Bounds.{mostCells, mostEngines}
 use Rattle.planning.specs.Laws.Numbers.{eqb-iff, leb-iff}
@@ -77,6 +77,8 @@ file-fault count place Value p = (p, λ e. let z : _≡_ {A = ℕ} 0 1 = cc in o
 file-fault count place Count p = (p, λ e. let z : _≡_ {A = ℕ} 0 1 = cc in omega arith)
 file-fault count place NoEngine p = (p, λ e. let z : _≡_ {A = ℕ} 0 1 = cc in omega arith)
 file-fault count place Space p = absurd p
+file-fault count place UnknownEngine p = (p, λ e. let z : _≡_ {A = ℕ} 0 1 = cc in omega arith)
+file-fault count place QuietSpan p = (p, λ e. let z : _≡_ {A = ℕ} 0 1 = cc in omega arith)
 
 -- its place is at most the count of records
 pub fault-place : (count place : ℕ) (what : Fault) → FaultInFile count what place → place ≤ count
@@ -90,3 +92,5 @@ fault-place count place Value p = p .most
 fault-place count place Count p = p .most
 fault-place count place NoEngine p = omega arith
 fault-place count place Space p = omega arith
+fault-place count place UnknownEngine p = p .most
+fault-place count place QuietSpan p = p .most

@@ -10,6 +10,7 @@ use Rattle.planfile.specs.Numerals.{numberOf}
 use Rattle.planfile.specs.Reading.{accepted, FourFields, Figures}
 use Rattle.planreader.specs.Columns.{Columns}
 use Rattle.planreader.specs.Items.{itemRead, readBy, threeFields, withItem}
+use Rattle.planreader.specs.Laws.Columns.{holding-names}
 use Rattle.planreader.specs.Laws.FieldNumbers.{number-inside}
 use Rattle.planreader.specs.Laws.Items.{item-fits, item-fails, item-adds}
 use Rattle.planreader.specs.Parts.{Valued, NameFor}
@@ -84,13 +85,7 @@ part-requires-2 : tie.Need-part-requires-2
 part-requires-2 c κs = let pre = start-of (c .before) .pre in (pre .0, pre .1, omega arith)
 
 read-requires : tie.Need-read-requires
-read-requires c κs =
-    let pre = start-of (c .before .before .before .before) .pre in
-    let holds = pre .3 in (
-      pre .2,
-      holds .room,
-      record { room = omega (arith, holds .room, holds .names); sized = omega (arith, holds .room, holds .sizes); short = holds .short },
-    )
+read-requires c κs = let pre = start-of (c .before .before .before .before) .pre in (pre .2, pre .3 .room, holding-names (pre .3))
 
 enum-known-item : tie.Need-enum-known-item
 enum-known-item c = c .match .keys1
