@@ -1,12 +1,14 @@
 // Time per try of the proved allocation beside a plain Rust program with the same answers, in one process. The plain program's state is
-// handed on by value, holds 37 rests and limits, and its choice is a scan.
+// handed on by value, holds 37 rests and limits, and its choice is a scan. Then time per call of the proved allocation for the shortest time,
+// without quiet spans and with as many as there may be.
 mod plans;
 
-use plans::{plan, plans, proved, Answer, Plan};
+use plans::{capacity, plan, plans, proved, Answer, Plan};
+use std::hint::black_box;
 use std::time::Instant;
 
 mod plain {
-    use super::{Answer, Plan};
+    use super::{capacity, Answer, Plan};
 
     #[derive(Clone, Copy)]
     struct State { remaining: [u32; 12], rest: [u32; 37], limit: [u8; 37] }
@@ -96,7 +98,7 @@ mod plain {
 
     pub fn allocate(p: &Plan) -> Answer {
         let mut s = State { remaining: [0; 12], rest: [0; 37], limit: [0; 37] };
-        for i in 0..p.watts.len() { s.remaining[i] = (p.watts[i] * p.minutes / 60).min(p.fuels[i]) as u32; }
+        for i in 0..p.watts.len() { s.remaining[i] = capacity(p, i) as u32; }
         for d in 0..p.energies.len() { s.rest[d] = p.energies[d] as u32; s.limit[d] = p.limits[d] as u8; }
         let mut table = vec![7u64; p.watts.len() * p.energies.len()];
         let search = Search { engines: p.watts.len(), deliveries: p.energies.len(), allowance: p.allowance as u32 };
@@ -122,6 +124,38 @@ fn nanoseconds(run: impl Fn() -> Answer) -> (f64, Answer) {
 fn deepest() -> Plan {
     let capacities = (0..12).map(|i| if i == 0 { 136 } else { 100 }).collect();
     plan("deepest", capacities, (0..37).map(|p| if p < 36 { (1, 1) } else { (1200, 12) }).collect())
+}
+
+// 37 deliveries that straight fill serves, or the sum of capacities rules out, without a try. Both shortest times in a week take 15 searches, most
+// of whose work is to compute capacities. Of each engine eight spans of an hour lie before that time and behind it.
+fn shortest(spans: bool) -> Plan {
+    let mut p = plan("shortest", (0..12).map(|i| 6_000 + 60 * i).collect(), vec![(148_000, 4); 37]);
+    p.minutes = 10_080;
+    for i in 0..if spans { 12 } else { 0 } {
+        for k in 0..8 {
+            p.quiet.extend_from_slice(&[i + 1, 1_200 * k + 10 * i, 1_200 * k + 10 * i + 60]);
+        }
+    }
+    p
+}
+
+// Microseconds per call under `shortest`, the best of 40 runs of 100 calls. The plain program serves the plan in the time that is answered, and
+// not in a minute less.
+fn shortest_microseconds(spans: bool) -> (f64, u64) {
+    let p = shortest(spans);
+    let answer = proved(1, &p);
+    let at = |minutes: u64| plain::allocate(&Plan { minutes, ..shortest(spans) });
+    assert_eq!((answer.word, at(answer.minutes - 1).word), (0, 1));
+    assert_eq!(answer, at(answer.minutes));
+    let mut best = f64::MAX;
+    for _ in 0..40 {
+        let start = Instant::now();
+        for _ in 0..100 {
+            black_box(proved(1, black_box(&p)));
+        }
+        best = best.min(start.elapsed().as_nanos() as f64 / 100_000.0);
+    }
+    (best, answer.minutes)
 }
 
 // Runs the deepest search on a stack of so many KiB, in both modes; a stack too small ends the process.
@@ -150,4 +184,8 @@ fn main() {
         if a.tries >= 1000 { product *= ours / theirs; count += 1; }
     }
     println!("geometric mean of the ratio over the {} plans of 1,000 tries or more: {:.2}", count, f64::powf(product, 1.0 / count as f64));
+    for (name, spans) in [("no span", false), ("96 spans", true)] {
+        let (microseconds, minutes) = shortest_microseconds(spans);
+        println!("shortest in 10,080 minutes on 12 engines, {name}: found at {minutes}, {microseconds:.2} microseconds per call");
+    }
 }

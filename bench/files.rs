@@ -40,6 +40,15 @@ fn full() -> Vec<u8> {
     file.into()
 }
 
+/// The same with eight spans of a minute for each engine at its end; straight fill still answers.
+fn quiet() -> Vec<u8> {
+    let mut file = String::from_utf8(full()).unwrap();
+    for k in 0..96 {
+        file += &format!("quiet,Engine {},{},{}\r\n", k % 12 + 1, 7 * (k / 12), 7 * (k / 12) + 1);
+    }
+    file.into()
+}
+
 /// A beginning and then bytes of one kind, up to the longest file.
 fn longest(beginning: &[u8], byte: u8) -> Vec<u8> {
     let mut file = beginning.to_vec();
@@ -62,6 +71,7 @@ fn repeated(beginning: &[u8], part: &[u8]) -> Vec<u8> {
 fn cases() -> Vec<Case> {
     vec![
         Case { name: "12 engines, 37 deliveries", file: full() },
+        Case { name: "the same with 96 spans", file: quiet() },
         Case { name: "quote open to the end", file: longest(b"plan,fixed,60,9\r\nengine,\"", b'a') },
         Case { name: "quoted to the end", file: closed() },
         Case { name: "unquoted to the end", file: longest(b"plan,fixed,60,9\r\nengine,", b'a') },

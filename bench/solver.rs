@@ -3,16 +3,12 @@
 #[allow(dead_code)]
 mod plans;
 
-use plans::{plan, plans, proved, Plan};
+use plans::{capacity, plan, plans, proved, Plan};
 use std::fmt::Write;
 use std::process::Command;
 use std::time::Instant;
 
 const SECONDS: &str = "10";
-
-fn capacity(p: &Plan, i: usize) -> u64 {
-    (p.watts[i] * p.minutes / 60).min(p.fuels[i])
-}
 
 // A sum of the cells of a row or a column, and what it is held to.
 fn constraint(text: &mut String, letter: char, cells: impl Iterator<Item = (usize, usize)>, held: &str, bound: u64) {
