@@ -58,16 +58,6 @@ running-mono spans T (suc T′) l = go (le-or-lt T T′) (λ (h : T ≤ T′). r
     go (inl h) before = unfold running sum in omega (arith, before h)
     go (inr h) before = let same : T ≡ suc T′ = omega arith in rw same (omega arith)
 
--- nor are there more of them than minutes
-pub running-most : (spans : List Span) (T : ℕ) → running spans T ≤ T
-unfolding running sum
-running-most spans zero = omega arith
-running-most spans (suc T) = omega (arith, running-most spans T, one (runs spans T))
-  where
-    one : (b : Bool) → cond b 1 0 ≤ 1
-    one true = omega arith
-    one false = omega arith
-
 -- where every minute lies in some span, none runs
 pub running-never : (spans : List Span) (T : ℕ) → ((m : ℕ) → m < T → runs spans m ≡ false) → running spans T ≡ 0
 unfolding running
