@@ -1,4 +1,6 @@
 // The allocation on numbers, in both modes.
+#![tactic(auto)]
+
 mod capacity;
 mod modes;
 mod spare;

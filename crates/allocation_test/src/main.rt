@@ -4,6 +4,8 @@
 // A plan is a line with its title, and the numbers: mode (0 fixed, 1 shortest), minutes, allowance, the lengths of the lists of watts,
 // fuels, energies, limits and quiet spans and of the lent table and spare list, and then the five lists. Anything that is no digit stands
 // between numbers, and the last one ends its line.
+#![tactic(auto)]
+
 ghost use Rattle.std.specs.Prelude.{◌≤◌, ◌<◌, length};
 
 use libc::{STDIN_FILENO, STDOUT_FILENO};

@@ -1,4 +1,6 @@
 // The checks of the allocation on numbers, and the plan by value behind them.
+#![tactic(auto)]
+
 mod columns;
 mod quiet;
 mod refusals;

@@ -1,5 +1,7 @@
 // Reading CSV by RFC 4180: where records and fields end, and the values of fields. It knows nothing of what the fields mean. What RFC 4180
 // says stands in rfc4180; specs/ has what these functions return in its terms.
+#![tactic(auto)]
+
 mod fields;
 mod reader;
 mod records;

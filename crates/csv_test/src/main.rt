@@ -1,6 +1,8 @@
 // Runs the crate csv over the examples on standard input: RFC 4180's own, records that break its grammar, and values to write. Each
 // example is a letter, R for a file to read and W for a value to write, the lengths of its title and of its bytes as decimal numbers with a
 // byte behind each, its title, and its bytes.
+#![tactic(auto)]
+
 ghost use Rattle.std.specs.Prelude.{◌≤◌, length};
 
 use libc::{STDIN_FILENO, STDOUT_FILENO};

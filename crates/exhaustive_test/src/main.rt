@@ -1,6 +1,8 @@
 // Compares the allocation on numbers with an exhaustive planner on small plans: the answer of `fixed`, the least minute of `shortest`,
 // each with cuttings in watt-hours, halves and thirds, and what a call leaves in the lists it is lent. Prints what was counted for each
 // group of plans, first of those without quiet spans, and the first plans of each on which the two differ.
+#![tactic(auto)]
+
 mod comparison;
 mod cutting;
 mod exhaustive;

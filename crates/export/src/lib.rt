@@ -1,5 +1,7 @@
 // The allocation on numbers, the call with a file and the spare lookup for programs in other languages: the result as a struct of numbers.
 // interface/fothwen.h declares them for C, interface/fothwen.rs for Rust.
+#![tactic(auto)]
+
 ghost use Rattle.std.specs.Prelude.{◌≡◌};
 ghost use Rattle.planning.specs.Numbers.{call_on};
 ghost use Rattle.filecall.specs.Calls.{call_with};

@@ -1,4 +1,6 @@
 // The call with a file: a plan file is read, planned and printed.
+#![tactic(auto)]
+
 mod call;
 mod print;
 

@@ -4,6 +4,8 @@
 // A case is six decimal numbers with a byte behind each, another byte, and the title and the bytes whose lengths the first two numbers are.
 // The others are the lengths of the lent table, spare list and output, and of the file: it is the bytes, and that one byte as often as it
 // takes.
+#![tactic(auto)]
+
 ghost use Rattle.std.specs.Prelude.{◌≤◌, ◌<◌, length};
 
 use libc::{STDIN_FILENO, STDOUT_FILENO};

@@ -1,5 +1,7 @@
 // Lines put into an output, text by text: what every program prints by. A text goes where the one before it ended, so a line is a chain
 // of calls: each takes what the call before it returned.
+#![tactic(auto)]
+
 mod bytes;
 mod field;
 mod number;

@@ -1,4 +1,6 @@
 // The spare lookup: an engine with that much to spare.
+#![tactic(auto)]
+
 ghost use Rattle.std.specs.Prelude.{◌≡◌};
 ghost use Rattle.planning.specs.declared.Lookup.TheVariants.{Refused};
 ghost use Rattle.planning.specs.SpareLookup.{Names, LookedUp};

@@ -1,4 +1,6 @@
 // The plan file: the types that the call with a file speaks of. Their meaning is given in specs/; there are no functions here.
+#![tactic(auto)]
+
 use planning::{Answer, MOST_DELIVERIES, MOST_ENGINES, Refusal};
 
 // The bounds of document 01 that only a file has, under the names that specs/Bounds gives them.

@@ -1,4 +1,6 @@
 // Plans the file on standard input and prints the answer, or the refusal, on standard output.
+#![tactic(auto)]
+
 ghost use Rattle.std.specs.Prelude.{◌≡◌, ◌≤◌, length, take};
 ghost use Rattle.planfile.specs.Print.{longest_print};
 ghost use Rattle.planfile.specs.Promises.{ProgramPrints};

@@ -1,5 +1,7 @@
 // The types that the planner's answers and contracts speak of, the bounds, a fault's number, and what several crates do with numbers. Their
 // meaning is given in specs/.
+#![tactic(auto)]
+
 ghost use Rattle.std.specs.Prelude.{◌≡◌, length, take};
 ghost use Rattle.planning.specs.Numbers.{quiet_of};
 ghost use Rattle.planning.specs.Quiet.{spans_of, clear, fits};

@@ -1,4 +1,6 @@
 // Plan files read: a file's bytes into the plan that they hold, by value, or a refusal with its record.
+#![tactic(auto)]
+
 mod entry;
 mod items;
 mod names;

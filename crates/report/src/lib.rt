@@ -1,4 +1,6 @@
 // What the test programs read and print by: numbers of their input, and numbers and bytes of their print put into a page.
+#![tactic(auto)]
+
 mod input;
 mod numbers;
 mod page;

@@ -1,5 +1,7 @@
 // RFC 4180, the format of CSV files: its bytes, and the class of each. Grammar, reading and writer are definitions, in specs/ with their
 // laws; the code that reads and writes by them stands in csv and lines.
+#![tactic(auto)]
+
 ghost use Rattle.std.specs.Prelude.{◌≡◌};
 ghost use Rattle.rfc4180.specs.Bytes.{class_of};
 
@@ -15,6 +17,7 @@ pub enum ByteClass {
 }
 
 // The class of a byte, decided by ranges.
+#[tactic(auto, unfolding(crate::specs::Bytes::class_of, crate::specs::Bytes::in_range))]
 pub fn class_of(b: u8) -> ByteClass
     ensures { result ≡ class_of b }
 {

@@ -1,4 +1,6 @@
 // The search of a plan's numbers, document 01's steps A to F, behind one door that tests its ranges once a search.
+#![tactic(auto)]
+
 mod choice;
 mod cycle;
 mod fill;

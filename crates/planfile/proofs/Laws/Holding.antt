@@ -2,7 +2,7 @@
 -- Assumes nothing.
 use Rattle.std.specs.Prelude.{◌≡◌, refl, ◌↔◌, ℕ, suc, ◌≤◌, length}
 use Rattle.std.proofs.Common.{sym, ◌∙◌, subst, arith, length-append}
-use Rattle.std.proofs.Math.Logic.{Iff·rfl}
+use Rattle.std.proofs.Math.Logic.{Iff}
 use mathlib.Core.List.{List, [], ◌∷◌, ◌++◌, map, map-id}
 use Rattle.std.proofs.Math.ListN.{length-map}
 use Rattle.rfc4180.specs.Fields.{file_values}
@@ -27,7 +27,7 @@ use Rattle.planfile.proofs.Laws.Tests.{accepted-iff, refused-not-accepted, bind_
 read-file-iff : (bytes : List ℕ) (f : FilePlan) → (read_file bytes ≡ accepted f)
     ↔ (Within 1 most_bytes (length bytes) × ((g : FilePlan) × Recorded (records bytes) g × ((1 ≤ length g.engines) × (g ≡ f))))
 unfolding read_file
-read-file-iff bytes f = simp (require-iff, within-iff, bind_iff, read-texts-iff, leb-iff, accepted-iff) Iff·rfl
+read-file-iff bytes f = simp (require-iff, within-iff, bind_iff, read-texts-iff, leb-iff, accepted-iff) Iff.rfl
 
 -- the plan without its names has as many engines and deliveries
 pub engine-count : (f : FilePlan) → length (unnamed f).engines ≡ length f.engines
@@ -50,7 +50,7 @@ figures-listed : (engines : List NamedEngine) (spans : ℕ → List Span)
       quiet = spans i;
     }))
 unfolding listed
-figures-listed [] spans = Iff·rfl
+figures-listed [] spans = Iff.rfl
 figures-listed (e ∷ engines) spans =
     let others = figures-listed engines (λ i. spans (suc i)) in (λ (one, all). (one, others.0 all), λ (one, all). (one, others.1 all))
 

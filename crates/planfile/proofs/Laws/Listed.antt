@@ -3,7 +3,7 @@
 -- Assumes nothing.
 use Rattle.std.specs.Prelude.{◌≡◌, refl, ◌↔◌, ℕ, ◌≤◌, ◌<◌, List, [], ◌∷◌, ◌++◌, map, length}
 use Rattle.std.proofs.Common.{sym, subst, arith, length-append}
-use Rattle.std.proofs.Math.Logic.{Iff·rfl, Iff·trans}
+use Rattle.std.proofs.Math.Logic.{Iff}
 use Rattle.std.proofs.Math.Bool.{and-eq-true_iff}
 use Rattle.std.proofs.lemmas.List.{map-append, length-map}
 use Rattle.planning.specs.Plan.{All, Within}
@@ -57,7 +57,7 @@ pub read_item_iff : (most low high low' high' : ℕ) (names : List (List ℕ)) (
     × ((m : ℕ) × (Numeral x.fourth m × Within low' high' m) × (◌≡◌ {A = Figures} (record { first = n; second = m }) v)))))
 unfolding read_item
 read_item_iff most low high low' high' names r x v =
-    simp (require-iff, ltb_iff, and-eq-true_iff, sound-name-iff, unused-iff, bind_iff, read-number-iff, accepted-iff) Iff·rfl
+    simp (require-iff, ltb_iff, and-eq-true_iff, sound-name-iff, unused-iff, bind_iff, read-number-iff, accepted-iff) Iff.rfl
 
 module _ {A B : Type 0} (name : A → List ℕ) (content : A → B) (Fits : B → Type 0) (most : ℕ) where
   -- the items at the front of a list that keeps all this keep it
@@ -104,7 +104,7 @@ module _ {A B : Type 0} (name : A → List ℕ) (content : A → B) (Fits : B �
         ↔ (Numeral x.third v.first × Numeral x.fourth v.second
         × Listed name content Fits most (items ++ make x.second v.first v.second ∷ []))
     item_iff items r x v l =
-        Iff·trans (read_item_iff most low high low' high' (map name items) r x v) (
+        Iff.trans (read_item_iff most low high low' high' (map name items) r x v) (
           λ (room, ((sound, unlike), (n, (p, s), (m, (q, t), found)))).
               let joins : Joins name content Fits most items (make x.second n m) =
               record { room = rw length-map at room; in_range = (fits x.second n m).1 (s, t); named = rw made sound; unused = rw made unlike } in

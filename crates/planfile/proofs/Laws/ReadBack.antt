@@ -3,7 +3,7 @@
 -- Assumes nothing.
 use Rattle.std.specs.Prelude.{◌≡◌, refl, ◌↔◌, ◌⊎◌, ℕ, zero, suc, ◌+◌, ◌-◌, ◌*◌, ◌<◌, length, get_or}
 use Rattle.std.proofs.Common.{sym, ap, ◌∙◌, subst, subst₂, inl, inr, zero-add, arith, get_or-append-add}
-use Rattle.std.proofs.Math.Logic.{Iff·trans}
+use Rattle.std.proofs.Math.Logic.{Iff}
 use mathlib.Core.List.Memᴰ
 use mathlib.Core.List.{List, [], ◌∷◌, ◌++◌, nil≢cons, cons-eq-cons, Memᴰ}
 use Rattle.std.proofs.Math.ListN.{get_or-append}
@@ -191,6 +191,6 @@ pub found-read-back : {bytes : List ℕ} {f : FilePlan} → Holds bytes f → (a
 unfolding lines_of
 found-read-back {f = f} h a {tries = tries} {table = table} finds file p i l m text =
     rw (file_unique file (print-reads f h.engines_named h.deliveries_named a), finds)
-    (Iff·trans (behind-first a.minutes tries table _ _ text (lines_of f (found tries table)))
+    (Iff.trans (behind-first a.minutes tries table _ _ text (lines_of f (found tries table)))
     (lines-iff (delivery_names f) (engine_names f) (λ p i. piece_in (length f.engines) table p i) h.deliveries_unlike h.engines_unlike p i
     (rw (deliveries-named f) l) (rw (engines-named f) m) text))

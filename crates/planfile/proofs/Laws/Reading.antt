@@ -2,7 +2,7 @@
 -- Assumes nothing.
 use Rattle.std.specs.Prelude.{◌≡◌, refl, ◌↔◌, ℕ, ◌+◌}
 use Rattle.std.proofs.Common.{sym, ap, ap₂, ◌∙◌, subst, arith}
-use Rattle.std.proofs.Math.Logic.{Iff·rfl, Iff·trans}
+use Rattle.std.proofs.Math.Logic.{Iff}
 use mathlib.Core.List.{List, [], ◌∷◌, ◌++◌, map, append-nil, append_assoc, nil≢cons, cons≢nil, head-eq_of_cons-eq, tail-eq_of_cons-eq}
 use Rattle.std.proofs.Math.Option.{some, some_inj}
 use Rattle.rfc4180.specs.Fields.{read_all, and_then, field_values}
@@ -172,9 +172,9 @@ behind_more f text texts g = (
 -- records behind a plan are read, and make g, where they are such records
 pub read-records-iff : (f : FilePlan) (r : ℕ) (texts : List (List ℕ)) (g : FilePlan) → SoFar f → (read_records f r texts ≡ accepted g) ↔ Behind f texts g
 unfolding read_records
-read-records-iff f r [] g s = Iff·trans (accepted-iff f g) (behind-nothing f g s)
+read-records-iff f r [] g s = Iff.trans (accepted-iff f g) (behind-nothing f g s)
 read-records-iff f r (text ∷ texts) g s =
-    Iff·trans (
+    Iff.trans (
       λ e.
           let (x, read, then-read) = (bind_iff _ _ g).0 e in
           let (h, added, then-others) = (bind_iff _ _ g).0 then-read in
@@ -218,7 +218,7 @@ pub read-plan-iff : (x : FourFields) (f : FilePlan) → (read_plan x ≡ accepte
     × ((minutes : ℕ) × (Numeral x.third minutes × Within 1 most_minutes minutes)
     × ((allowance : ℕ) × (Numeral x.fourth allowance × Within 0 most_tries allowance) × (begun mode minutes allowance ≡ f)))))
 unfolding read_plan
-read-plan-iff x f = simp (require-iff, same-iff, bind_iff, read-mode-iff, read-number-iff, accepted-iff) Iff·rfl
+read-plan-iff x f = simp (require-iff, same-iff, bind_iff, read-mode-iff, read-number-iff, accepted-iff) Iff.rfl
 
 plan-fields : (x : FourFields) (mode : Mode) (minutes allowance : ℕ) → x.first ≡ ascii "plan" → x.second ≡ mode_word mode
     → Numeral x.third minutes → Numeral x.fourth allowance → PlanRecord (field_list x) mode minutes allowance

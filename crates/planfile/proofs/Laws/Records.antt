@@ -2,7 +2,7 @@
 -- Assumes nothing.
 use Rattle.std.specs.Prelude.{◌≡◌, refl, ◌↔◌, ℕ, suc, ◌<◌, Bool, true, false, List, [], ◌∷◌, ◌++◌, length}
 use Rattle.std.proofs.Common.{sym, ap, ◌∙◌, subst}
-use Rattle.std.proofs.Math.Logic.{Iff·rfl}
+use Rattle.std.proofs.Math.Logic.{Iff}
 use Rattle.std.proofs.Math.Option.{Option, none, some, none-ne-some}
 use Rattle.std.proofs.lemmas.List.{length-map}
 use Rattle.rfc4180.specs.Fields.{field_values}
@@ -74,7 +74,7 @@ unfolding read_engine
 read-engine-iff f r x g s =
     then-iff _ _ g λ v.
     item_iff (λ (e : NamedEngine). e.name) (λ (e : NamedEngine). e) Figured most_engines 0 most_watts 0 most_fuel engine_of
-    (λ text n m. refl) (λ text n m. Iff·rfl) f.engines r x v s.engines
+    (λ text n m. refl) (λ text n m. Iff.rfl) f.engines r x v s.engines
 
 pub read-delivery-iff : (f : FilePlan) (r : ℕ) (x : FourFields) (g : FilePlan) → SoFar f → (read_delivery f r x ≡ accepted g)
     ↔ ((v : Figures) × (Numeral x.third v.first × Numeral x.fourth v.second
@@ -99,13 +99,13 @@ read-span-iff : (engine : ℕ) (f : FilePlan) (r : ℕ) (x : FourFields) (g : Fi
     × ((to : ℕ) × (Numeral x.fourth to × Within 0 most_minutes to)
     × ((fits (record { from = from; to = to }) (spans_of engine f.quiet) ≡ true) × (with_quiet f (span_of engine from to) ≡ g))))
 unfolding read_span
-read-span-iff engine f r x g = simp (require-iff, bind_iff, read-number-iff, accepted-iff) Iff·rfl
+read-span-iff engine f r x g = simp (require-iff, bind_iff, read-number-iff, accepted-iff) Iff.rfl
 
 -- a quiet span is read where an engine has the name, and its span is read
 read-quiet-iff : (f : FilePlan) (r : ℕ) (x : FourFields) (g : FilePlan) → (read_quiet f r x ≡ accepted g)
     ↔ ((place_of x.second (engine_names f) < length (engine_names f)) × (read_span (suc (place_of x.second (engine_names f))) f r x ≡ accepted g))
 unfolding read_quiet
-read-quiet-iff f r x g = simp (require-iff, ltb_iff) Iff·rfl
+read-quiet-iff f r x g = simp (require-iff, ltb_iff) Iff.rfl
 
 -- ---- one record more
 

@@ -2,7 +2,7 @@
 -- Assumes nothing.
 use Rattle.std.specs.Prelude.{◌≡◌, refl, ◌↔◌, ℕ, zero, suc, ◌-◌, ◌≤◌, ◌<◌, Bool, true, false, cond, not, ◌&&◌, eqb, length}
 use Rattle.std.proofs.Common.{sym, ap, ◌∙◌, subst, arith, eqb-true}
-use Rattle.std.proofs.Math.Logic.{Iff·rfl}
+use Rattle.std.proofs.Math.Logic.{Iff}
 use Rattle.std.proofs.Math.Bool.{and-eq-true_iff}
 use Rattle.std.proofs.lemmas.Bool.{false≢true, eqb-false}
 use mathlib.Core.List.{List, [], ◌∷◌, nil≢cons, cons≢nil, cons-eq-cons}
@@ -34,13 +34,13 @@ unfolding same
 same-iff [] [] = (λ e. refl, λ e. refl)
 same-iff [] (b ∷ bs) = (λ e. absurd (false≢true e), λ e. absurd (nil≢cons e))
 same-iff (a ∷ rest) [] = (λ e. absurd (false≢true e), λ e. absurd (cons≢nil e))
-same-iff (a ∷ rest) (b ∷ bs) = simp (and-eq-true_iff, eqb-iff, same-iff rest bs, cons-eq-cons) Iff·rfl
+same-iff (a ∷ rest) (b ∷ bs) = simp (and-eq-true_iff, eqb-iff, same-iff rest bs, cons-eq-cons) Iff.rfl
 
 -- `name_bytes` holds where every byte may stand in a name
 pub name-bytes-iff : (name : List ℕ) → (name_bytes name ≡ true) ↔ All (Within least_name_byte most_name_byte) name
 unfolding name_bytes
 name-bytes-iff [] = (λ e. tt, λ e. refl)
-name-bytes-iff (b ∷ bs) = simp (and-eq-true_iff, within-iff, name-bytes-iff bs) Iff·rfl
+name-bytes-iff (b ∷ bs) = simp (and-eq-true_iff, within-iff, name-bytes-iff bs) Iff.rfl
 
 -- `sound_name` holds where the name has the bytes of a name and no more or fewer than a name may have
 pub sound-name-iff : (name : List ℕ) → (sound_name name ≡ true) ↔ SoundName name
@@ -58,7 +58,7 @@ not_iff false = (λ e. false≢true, λ n. refl)
 pub unused-iff : (name : List ℕ) (names : List (List ℕ)) → (unused name names ≡ true) ↔ All (λ other. name ≡ other → ⊥) names
 unfolding unused
 unused-iff name [] = (λ e. tt, λ e. refl)
-unused-iff name (other ∷ names) = simp (and-eq-true_iff, not_iff, same-iff, unused-iff name names) Iff·rfl
+unused-iff name (other ∷ names) = simp (and-eq-true_iff, not_iff, same-iff, unused-iff name names) Iff.rfl
 
 -- a name with a place among names is used, and one whose place is behind them all is not
 pub used-place : (name : List ℕ) (names : List (List ℕ)) → place_of name names < length names → unused name names ≡ false
@@ -110,7 +110,7 @@ place-only (name ∷ names) (suc i) u l =
 pub digits-iff : (ds : List ℕ) → (all_digits ds ≡ true) ↔ All (Within digit_zero digit_nine) ds
 unfolding all_digits
 digits-iff [] = (λ e. tt, λ e. refl)
-digits-iff (d ∷ ds) = simp (and-eq-true_iff, within-iff, digits-iff ds) Iff·rfl
+digits-iff (d ∷ ds) = simp (and-eq-true_iff, within-iff, digits-iff ds) Iff.rfl
 
 cond-iff : (t : Bool) (a n : ℕ) → (cond t (some a) none ≡ some n) ↔ ((t ≡ true) × (a ≡ n))
 cond-iff true a n = (λ e. (refl, some_inj.0 e), λ e. ap some e.1)
@@ -202,7 +202,7 @@ number-by-iff low high r (some m) n = (
 -- a number is read where the text is its numeral and it is in its range
 pub read-number-iff : (low high r : ℕ) (text : List ℕ) (n : ℕ) → (read_number low high r text ≡ accepted n) ↔ (Numeral text n × Within low high n)
 unfolding read_number
-read-number-iff low high r text n = simp (number-by-iff, number-iff) Iff·rfl
+read-number-iff low high r text n = simp (number-by-iff, number-iff) Iff.rfl
 
 mode-by : (fixed shortest : Bool) (r : ℕ) (text : List ℕ) (mode : Mode) → same text (ascii "fixed") ≡ fixed → same text (ascii "shortest") ≡ shortest
     → mode_by fixed shortest r ≡ accepted mode → text ≡ mode_word mode

@@ -3,7 +3,7 @@
 use Rattle.std.specs.Prelude.{◌≡◌, refl, ◌↔◌, ◌⊎◌, ℕ, zero, suc, ◌+◌, ◌≤◌, ◌<◌, Bool, true, false, ◌&&◌, length, ltb, leb, eqb}
 use Rattle.std.proofs.Math.Path.{sym}
 use Rattle.std.proofs.Common.{ap, inl, inr, arith, ltb-true, lt-ltb, leb-true, le-leb, eqb-true, eq-eqb}
-use Rattle.std.proofs.Math.Logic.{Iff·rfl}
+use Rattle.std.proofs.Math.Logic.{Iff}
 use Rattle.std.proofs.lemmas.Bool.{false≢true, lt-leb}
 use Rattle.std.proofs.Math.Bool.{and-eq-true_iff}
 use mathlib.Core.List.{List, [], ◌∷◌, ◌++◌, zip_with, append-nil, append_assoc}
@@ -89,7 +89,7 @@ FiguresInRange e = Within 0 most_watts e.watts × Within 0 most_fuel e.fuel
 
 engine-iff : (r : ℕ) (e : Engine) → (engine_fault r e ≡ none) ↔ FiguresInRange e
 unfolding engine_fault
-engine-iff r e = simp the-checks Iff·rfl
+engine-iff r e = simp the-checks Iff.rfl
 
 delivery-iff : (r : ℕ) (d : Delivery) → (delivery_fault r d ≡ none) ↔ DeliveryInRange d
 unfolding delivery_fault
@@ -115,7 +115,7 @@ module _ (engines : ℕ) where
       ↔ (Within 0 most_minutes q.span.from
       × (Within 0 most_minutes q.span.to × (Within 1 engines q.engine × (fits q.span (spans_of q.engine earlier) ≡ true))))
   unfolding quiet_fault
-  quiet-iff earlier q = simp the-checks Iff·rfl
+  quiet-iff earlier q = simp the-checks Iff.rfl
 
   pub kept_more : (earlier : List Quiet) (q : Quiet)
       → QuietKept engines (earlier ++ q ∷ []) ↔ (QuietKept engines earlier × (quiet_fault engines earlier q ≡ none))

@@ -2,7 +2,7 @@
 -- Assumes nothing.
 use Rattle.std.specs.Prelude.{◌≡◌, refl, ◌≢◌, ◌↔◌, ◌⊎◌, Bool, true, false, ℕ, ◌≤◌, length}
 use Rattle.std.proofs.Common.{sym, inl, inr, arith}
-use Rattle.std.proofs.Math.Logic.{Iff·rfl}
+use Rattle.std.proofs.Math.Logic.{Iff}
 use Rattle.planning.specs.declared.Fault.{Fault}
 use Rattle.planning.specs.declared.Fault.TheVariants.{Size, Grammar, Fields, Kind, Name, Value, Count, NoEngine, Space, UnknownEngine, QuietSpan}
 use Rattle.planning.specs.declared.Refusal.{Refusal}
@@ -22,7 +22,7 @@ call-iff : (call : FileCall) (f : FilePlan) → (read_call call ≡ accepted f)
     × ((length call.table ≡ most_cells)
     × ((length call.spare ≡ most_engines) × ((length (printed g) ≤ length call.output) × (g ≡ f)))))
 unfolding read_call
-call-iff call f = simp (require-iff, bind_iff, eqb-iff, leb-iff, accepted-iff) Iff·rfl
+call-iff call f = simp (require-iff, bind_iff, eqb-iff, leb-iff, accepted-iff) Iff.rfl
 
 pub accepted-call : (call : FileCall) {f : FilePlan} → read_call call ≡ accepted f → (ok : FileAccepted call) × (ok.plan ≡ f)
 accepted-call call {f} e =
