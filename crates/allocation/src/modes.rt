@@ -36,7 +36,7 @@ fn search_at(plan: Plan, minutes: u64, table: &mut [u64]) -> Ended
 
 // The answer of a search for that many minutes. A plan that passed the checks is never out of the search's range.
 fn answer_of(ended: Ended, minutes: u64) -> Answer
-    ensures* { λ r. ⌜ ((result : Result) → ended ≡ ended_of result → r ≡ answer_of (record { minutes = minutes; result = result })) ⌝ }
+    ensures { (came : Result) → ended ≡ ended_of came → result ≡ answer_of (record { minutes = minutes; result = came }) }
 {
     match ended {
         Ended::Found(t) => Answer {

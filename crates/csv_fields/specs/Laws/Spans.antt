@@ -51,11 +51,16 @@ unfolding outside_after behind_end begins_with
 cr_passed b [] at p e = record_passed true b [] at refl ∙ rw p
 cr_passed b (c ∷ rest) at p e = record_passed true b (c ∷ rest) at (rw (p, e)) ∙ rw p
 
+ended_here : (outside : Bool) (at : ℕ) (rest : List ℕ) → rest ≡ []
+    → span_of at (first_from outside rest) ≡ record { end = at; next = at; ended = false }
+unfolding first_from span_from
+ended_here outside at [] e = let z : at + 0 ≡ at = omega arith in rw z
+ended_here outside at (b ∷ rest) e = absurd (cc)
+
 -- the file ends here
 pub record_unended : (outside : Bool) (file : List ℕ) (at : ℕ) → length file ≤ at
     → span_of at (first_from outside (drop at file)) ≡ record { end = at; next = at; ended = false }
-unfolding first_from span_from
-record_unended outside file at h = let z : at + 0 ≡ at = omega arith in rw (drop_of_length-le file {i = at} h, first_from, span_from, z)
+record_unended outside file at h = ended_here outside at (drop at file) (drop_of_length-le file {i = at} h)
 
 -- ---- the field
 

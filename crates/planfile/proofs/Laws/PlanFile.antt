@@ -97,7 +97,7 @@ unfolding delivery_line
 delivery-lines {records} {es} {qs} {before} m [] = rw (append-nil records, append-nil before) m
 delivery-lines {records} {es} {qs} {before} m (d ∷ ds) =
     rw (← append_assoc records (delivery_line d ∷ []) (map delivery_line ds), ← append_assoc before (d ∷ []) ds)
-    (delivery-lines (mixture-delivery m d (decimal-read d.delivery.energy) (decimal-read d.delivery.limit)) ds)
+    (delivery-lines {records = records ++ delivery_line d ∷ []} {before = before ++ d ∷ []} (mixture-delivery m d (decimal-read d.delivery.energy) (decimal-read d.delivery.limit)) ds)
 
 module _ (es : List NamedEngine) (ds : List NamedDelivery) where
   abbrev names : List (List ℕ)
@@ -117,7 +117,7 @@ module _ (es : List NamedEngine) (ds : List NamedDelivery) where
   quiet-lines {records} {before} m [] known = rw (append-nil before) (delivery-lines m ds)
   quiet-lines {records} {before} m (q ∷ qs) known =
       rw (← append_assoc records (quiet_line names q ∷ []) (map (quiet_line names) qs ++ map delivery_line ds), ← append_assoc before (q ∷ []) qs)
-      (quiet-lines (quiet_line_lem m q known.0) qs known.1)
+      (quiet-lines {records = records ++ quiet_line names q ∷ []} {before = before ++ q ∷ []} (quiet_line_lem m q known.0) qs known.1)
 
 engine-lines : {records : List (List (List ℕ))} {before : List NamedEngine} → Mixture records before [] [] → (es : List NamedEngine)
     → Mixture (records ++ map engine_line es) (before ++ es) [] []
@@ -125,7 +125,7 @@ unfolding engine_line
 engine-lines {records} {before} m [] = rw (append-nil records, append-nil before) m
 engine-lines {records} {before} m (e ∷ es) =
     rw (← append_assoc records (engine_line e ∷ []) (map engine_line es), ← append_assoc before (e ∷ []) es)
-    (engine-lines (mixture-engine m e (decimal-read e.watts) (decimal-read e.fuel)) es)
+    (engine-lines {records = records ++ engine_line e ∷ []} {before = before ++ e ∷ []} (mixture-engine m e (decimal-read e.watts) (decimal-read e.fuel)) es)
 
 -- ---- the file
 

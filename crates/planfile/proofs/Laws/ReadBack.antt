@@ -3,7 +3,7 @@
 -- Assumes nothing.
 use Rattle.std.specs.Prelude.{◌≡◌, refl, ◌↔◌, ◌⊎◌, ℕ, zero, suc, ◌+◌, ◌-◌, ◌*◌, ◌<◌, length, get_or}
 use Rattle.std.proofs.Common.{sym, ap, ◌∙◌, subst, subst₂, inl, inr, zero-add, arith, get_or-append-add}
-use Rattle.std.proofs.Math.Logic.{Iff}
+use Rattle.std.proofs.Math.Logic.Iff
 use mathlib.Core.List.Memᴰ
 use mathlib.Core.List.{List, [], ◌∷◌, ◌++◌, nil≢cons, cons-eq-cons, Memᴰ}
 use Rattle.std.proofs.Math.ListN.{get_or-append}
