@@ -1,7 +1,7 @@
 -- Fixed and shortest, the answer they carry, and what found writes (document 01, "Capacity and tries").
 -- "The minutes a plan gives are its MINUTES, in both modes".
 -- Assumes nothing.
-use Rattle.std.specs.Prelude.{ℕ, zero, suc, ◌+◌, ◌-◌, ◌/◌, Bool, true, false, List, ◌∷◌, ◌++◌, length, ltb}
+use Rattle.std.specs.Prelude.{ℕ, zero, suc, ◌+◌, ◌-◌, ◌/◌, Bool, true, false, List, length, ltb}
 use Rattle.planning.specs.declared.Answer.{Answer}
 use Rattle.planning.specs.declared.Mode.{Mode}
 use Rattle.planning.specs.declared.Mode.TheVariants.{Fixed, Shortest}

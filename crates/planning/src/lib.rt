@@ -137,6 +137,7 @@ pub enum Lookup {
 }
 
 // The documents' number of a fault.
+#[tactic(auto, unfolding(crate::specs::Refusals::fault_number))]
 pub fn number_of(fault: Fault) -> u64
     ensures { result ≡ fault_number fault }
 {
@@ -179,6 +180,7 @@ pub fn copy(numbers: &[u64], to: &mut [u64])
 }
 
 // Whether one of two spans ends before the other begins.
+#[tactic(auto, unfolding(crate::specs::Quiet::clear))]
 fn apart(from: u64, to: u64, other_from: u64, other_to: u64) -> bool
     ensures { result ≡ clear (record { from = from; to = to }) (record { from = other_from; to = other_to }) }
 {

@@ -13,7 +13,7 @@ use Rattle.planning.proofs.Laws.Finite.Sums.{sum_ext, positives_ext}
 use Rattle.planning.proofs.Laws.Plans.{length-capacities, length-energies}
 use Rattle.planning.proofs.Laws.Soundness.Table.{cell-inside}
 use Rattle.planning.specs.Modes.{planned, outcome_of, table_by, table_after, spares_by, spares_after}
-use Rattle.planning.specs.Tables.{piece_in, over_front, at, cell}
+use Rattle.planning.specs.Tables.{piece_in, over_front, cell}
 use Rattle.planning.specs.Numbers.{Call, refusal_of, answered_by, allocation, unless_refused, table_on_exit, spare_on_exit}
 use Rattle.planning.specs.Plan.{Plan}
 use Rattle.planning.specs.Search.{Result, found, none, stopped}

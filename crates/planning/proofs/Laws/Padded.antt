@@ -1,7 +1,7 @@
 -- A list made longer with zeros: its length, its front and its numbers.
 -- Assumes nothing.
-use Rattle.std.specs.Prelude.{◌≡◌, refl, List, [], ◌∷◌, ◌++◌, ℕ, zero, suc, ◌+◌, ◌-◌, ◌≤◌, length, take, replicate}
-use Rattle.std.proofs.Common.{◌∙◌, length-append, take_at, arith}
+use Rattle.std.specs.Prelude.{◌≡◌, refl, List, [], ◌∷◌, ◌++◌, ℕ, zero, suc, ◌-◌, ◌≤◌, length, take, replicate}
+use Rattle.std.proofs.Common.{length-append, take_at, arith}
 use Rattle.std.proofs.lemmas.List.{length-replicate}
 use Rattle.planning.specs.Tables.{at, padded}
 use Rattle.planning.proofs.Laws.Tables.{at-zeros}
