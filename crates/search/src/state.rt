@@ -8,7 +8,7 @@ use planning::MOST_ENGINES;
 // The slot of a delivery that is untouched and so has none.
 pub(crate) const NO_SLOT: usize = MOST_ENGINES;
 
-#[derive(Drop)]
+#[derive(Clone, Copy)]
 pub(crate) struct State {
     // deliveries left, and those of them that no engine was cut for, as sets
     pub left: u64,
