@@ -1,4 +1,4 @@
-/* The proved planner for C and C++: link target/staticlib/libexport.a, which `rt staticlib export` makes. Contracts: crates/export/src/lib.rt.
+/* The proved planner for C and C++: link crates/export/out/libexport.a, which `rt lib` makes there. Contracts: crates/export/src/lib.rt.
  *
  * A list is a pointer and then its length in elements. For an empty list the pointer may be NULL and is never followed; any other points to
  * that many elements. A list that is written (no `const`) overlaps no other list of its call. Nothing else is asked of a caller: a call that

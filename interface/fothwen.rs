@@ -1,4 +1,4 @@
-//! The proved planner for Rust: safe functions over the static library that `rt staticlib export` makes. Contracts: crates/export/src/lib.rt.
+//! The proved planner for Rust: safe functions over the static library that `rt lib` makes in crates/export. Contracts: crates/export/src/lib.rt.
 //!
 //! Nothing is asked of a caller. A call that breaks a rule of documents 01 and 02, lists and tables of a wrong length included, is refused by
 //! its number and place, and then nothing lent changes.
