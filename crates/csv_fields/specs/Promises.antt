@@ -1,7 +1,7 @@
 -- What the public functions promise, in terms of RFC 4180's grammar. Each promise opens with the definition that the result equals, for all
 -- input; the other clauses say what that means.
 -- Assumes nothing.
-use Rattle.std.specs.Prelude.{◌≡◌, ◌↔◌, Bool, true, false, List, [], ◌∷◌, ◌++◌, ℕ, ◌+◌, ◌-◌, ◌≤◌, ◌<◌, length, drop}
+use Rattle.std.specs.Prelude.{◌≡◌, ◌↔◌, Bool, true, false, List, [], ◌∷◌, ◌++◌, ℕ, ◌+◌, ◌≤◌, ◌<◌, length, drop}
 use Rattle.csv_fields.specs.declared.FieldForm.{FieldForm}
 use Rattle.csv_fields.specs.declared.FieldForm.TheVariants as form
 use Rattle.csv_fields.specs.declared.FieldRead.{FieldRead}
