@@ -1,5 +1,5 @@
 // RFC 4180, the format of CSV files: its bytes, and the class of each. Grammar, reading and writer are definitions, in specs/ with their
-// laws; the code that reads and writes by them stands in csv and lines.
+// laws; the code that reads and writes by them stands in csv_fields and lines.
 #![tactic(auto)]
 
 ghost use Rattle.std.specs.Prelude.{◌≡◌};
