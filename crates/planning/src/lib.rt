@@ -32,14 +32,14 @@ pub const MOST_ENERGY: u64 = 1000000000;
 pub const MOST_LIMIT: u64 = 12;
 
 // MODE of a plan: search the minutes it gives, or look for the shortest time.
-#[derive(Drop)]
+#[derive(Clone, Copy)]
 pub enum Mode {
     Fixed,
     Shortest,
 }
 
 // An answer is one of found, none and stopped ..
-#[derive(Drop)]
+#[derive(Clone, Copy)]
 pub enum Outcome {
     Found,
     None,
@@ -47,7 +47,7 @@ pub enum Outcome {
 }
 
 // .. carried with its minutes and tries.
-#[derive(Drop)]
+#[derive(Clone, Copy)]
 pub struct Answer {
     pub outcome: Outcome,
     pub minutes: u64,
@@ -55,7 +55,7 @@ pub struct Answer {
 }
 
 // Why a call is turned down: the rows 1 to 9 of document 01's table, in its order, then 10 and 11 of document 02.
-#[derive(Drop)]
+#[derive(Clone, Copy)]
 pub enum Fault {
     Size,
     Grammar,
@@ -71,14 +71,14 @@ pub enum Fault {
 }
 
 // A refusal: the fault, and its place: the record at fault counted from 1, or 0.
-#[derive(Drop)]
+#[derive(Clone, Copy)]
 pub struct Refusal {
     pub fault: Fault,
     pub place: u64,
 }
 
 // What checks come to: the first refusal, or none.
-#[derive(Drop)]
+#[derive(Clone, Copy)]
 pub enum Verdict {
     Accepted,
     Refused(Refusal),
@@ -86,7 +86,7 @@ pub enum Verdict {
 
 // The quiet spans of a plan's engines by value, in the order given: the number of each one's engine, counted from 1, FROM and TO. A column is
 // filled from the front and 0 behind the count.
-#[derive(Drop)]
+#[derive(Clone, Copy)]
 pub struct Spans {
     pub count: usize,
     pub engine: [u16; MOST_QUIET],
@@ -95,7 +95,7 @@ pub struct Spans {
 }
 
 // The engines of a plan by value: a column for each figure, and their quiet spans.
-#[derive(Drop)]
+#[derive(Clone, Copy)]
 pub struct Engines {
     pub count: usize,
     pub watts: [u32; MOST_ENGINES],
@@ -104,7 +104,7 @@ pub struct Engines {
 }
 
 // The deliveries of a plan by value, alike.
-#[derive(Drop)]
+#[derive(Clone, Copy)]
 pub struct Deliveries {
     pub count: usize,
     pub energy: [u32; MOST_DELIVERIES],
@@ -112,7 +112,7 @@ pub struct Deliveries {
 }
 
 // A plan by value, as it is behind the checks.
-#[derive(Drop)]
+#[derive(Clone, Copy)]
 pub struct Plan {
     pub mode: Mode,
     pub minutes: u64,
@@ -122,14 +122,14 @@ pub struct Plan {
 }
 
 // What the allocation on numbers returns.
-#[derive(Drop)]
+#[derive(Clone, Copy)]
 pub enum Allocation {
     Answered(Answer),
     Refused(Refusal),
 }
 
 // What the spare lookup returns: an engine that has the amount, counted from 0; that none has it; or a refusal.
-#[derive(Drop)]
+#[derive(Clone, Copy)]
 pub enum Lookup {
     Engine(usize),
     Nowhere,
