@@ -29,6 +29,7 @@ fn smaller(a: u16, b: u16) -> u16
 }
 
 // How many of the minutes lie in a span.
+#[tactic(auto, unfolding(planning::proofs::Laws::Quiet::taken))]
 fn taken(from: u16, to: u16, minutes: u16) -> u16
     requires { from < to }
     ensures { result ≡ taken_of (record { from = from; to = to }) minutes }

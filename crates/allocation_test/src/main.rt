@@ -8,9 +8,9 @@
 
 ghost use Rattle.std.specs.Prelude.{◌≤◌, ◌<◌, length};
 
-use libc::{STDIN_FILENO, STDOUT_FILENO};
 use planning::{Allocation, Mode, Outcome};
 use report::{Page, Token, list_page, number, words_page, written};
+use std::io::{self, Read, Write};
 
 const LARGEST: u64 = 18446744073709551615;
 
@@ -19,11 +19,11 @@ const TABLE_PATTERN: u64 = 7;
 
 const SPARE_PATTERN: u64 = 8;
 
-// Writes a page to standard output.
-fn print(page: Page) {
+// Writes a page.
+fn print<W: Write>(out: &mut W, page: Page) -> io::Result<()> {
     let next = page.next;
     let bytes = page.bytes;
-    io::write_all(STDOUT_FILENO, written(&bytes, next));
+    out.write_all(written(&bytes, next))
 }
 
 // Fills a list with numbers, and answers where they end.
@@ -41,7 +41,7 @@ fn numbers(input: &[u8], from: usize, out: &mut [u64]) -> usize {
 
 // Where the lists of a plan end that stand in one list of its numbers, how much of the table and of the spare list is lent, and where the
 // numbers begin.
-#[derive(Drop)]
+#[derive(Clone, Copy, Drop)]
 struct Lengths {
     watts: usize,
     fuels: usize,
@@ -87,60 +87,54 @@ fn lengths_at(input: &[u8], from: usize) -> Lengths
 }
 
 // Prints the mode and its numbers.
-fn print_mode(mode: Mode, minutes: u64, allowance: u64) {
+fn print_mode<W: Write>(out: &mut W, mode: Mode, minutes: u64, allowance: u64) -> io::Result<()> {
     match mode {
-        Mode::Fixed => {
-            print(words_page(b": fixed # #", &[minutes, allowance]));
-        }
-        Mode::Shortest => {
-            print(words_page(b": shortest # #", &[minutes, allowance]));
-        }
+        Mode::Fixed => print(out, words_page(b": fixed # #", &[minutes, allowance])),
+        Mode::Shortest => print(out, words_page(b": shortest # #", &[minutes, allowance])),
     }
 }
 
 // Prints what the allocation returned.
-fn print_answer(allocation: Allocation) {
+fn print_answer<W: Write>(out: &mut W, allocation: Allocation) -> io::Result<()> {
     match allocation {
         Allocation::Refused(refusal) => {
             let fault = refusal.fault;
-            print(words_page(
-                b"  refused # #",
-                &[planning::number_of(fault), refusal.place],
-            ));
+            print(
+                out,
+                words_page(
+                    b"  refused # #",
+                    &[planning::number_of(fault), refusal.place],
+                ),
+            )
         }
         Allocation::Answered(answer) => {
             let numbers = [answer.minutes, answer.tries];
             let outcome = answer.outcome;
             match outcome {
-                Outcome::Found => {
-                    print(words_page(b"  found # #", &numbers));
-                }
-                Outcome::None => {
-                    print(words_page(b"  none # #", &numbers));
-                }
-                Outcome::Stopped => {
-                    print(words_page(b"  stopped # #", &numbers));
-                }
+                Outcome::Found => print(out, words_page(b"  found # #", &numbers)),
+                Outcome::None => print(out, words_page(b"  none # #", &numbers)),
+                Outcome::Stopped => print(out, words_page(b"  stopped # #", &numbers)),
             }
         }
     }
 }
 
 // Prints the lent front of a list behind its name, and among words how many of the numbers behind it are not the pattern any more.
-fn print_lent<'a>(
+fn print_lent<'a, W: Write>(
+    out: &mut W,
     name: &'a [u8],
     list: &'a [u64; 1024],
     lent: usize,
     words: &'a [u8],
     pattern: u64,
-) {
+) -> io::Result<()> {
     let whole: &[u64] = list;
     if whole.len() < lent {
-        return;
+        return Ok(());
     }
-    print(list_page(name, &whole[0..lent]));
+    print(out, list_page(name, &whole[0..lent]))?;
     let changed = report::others(&whole[lent..], pattern) as u64;
-    print(words_page(words, &[changed]));
+    print(out, words_page(words, &[changed]))
 }
 
 // The numbers of a list from a place to another; none where they do not stand in it.
@@ -155,18 +149,34 @@ fn part(list: &[u64], from: usize, end: usize) -> &[u64] {
 }
 
 // Prints the five lists that a call is made with, which stand one behind the other, and how much is lent to it.
-fn print_lists(lists: &[u64; 512], n: Lengths) {
+fn print_lists<W: Write>(out: &mut W, lists: &[u64; 512], n: Lengths) -> io::Result<()> {
     let whole: &[u64] = lists;
-    print(list_page(b", watts", part(whole, 0, n.watts)));
-    print(list_page(b", fuels", part(whole, n.watts, n.fuels)));
-    print(list_page(b", energies", part(whole, n.fuels, n.energies)));
-    print(list_page(b", limits", part(whole, n.energies, n.limits)));
-    print(list_page(b", quiet", part(whole, n.limits, n.quiet)));
-    print(words_page(b", lent # and #\n", &[n.table as u64, n.spare as u64]));
+    print(out, list_page(b", watts", part(whole, 0, n.watts)))?;
+    print(out, list_page(b", fuels", part(whole, n.watts, n.fuels)))?;
+    print(
+        out,
+        list_page(b", energies", part(whole, n.fuels, n.energies)),
+    )?;
+    print(
+        out,
+        list_page(b", limits", part(whole, n.energies, n.limits)),
+    )?;
+    print(out, list_page(b", quiet", part(whole, n.limits, n.quiet)))?;
+    print(
+        out,
+        words_page(b", lent # and #\n", &[n.table as u64, n.spare as u64]),
+    )
 }
 
 // Runs the plan of these lists with the front of a table and of a spare list lent, and prints the answer and what is left in them.
-fn run_lists(mode: Mode, minutes: u64, allowance: u64, lists: &[u64; 512], n: Lengths)
+fn run_lists<W: Write>(
+    out: &mut W,
+    mode: Mode,
+    minutes: u64,
+    allowance: u64,
+    lists: &[u64; 512],
+    n: Lengths,
+) -> io::Result<()>
     requires { (n.table ≤ 1024) × (n.spare ≤ 1024) }
 {
     let whole: &[u64] = lists;
@@ -186,32 +196,41 @@ fn run_lists(mode: Mode, minutes: u64, allowance: u64, lists: &[u64; 512], n: Le
         &mut table[0..table_len],
         &mut spare[0..spare_len],
     );
-    print_answer(allocation);
+    print_answer(out, allocation)?;
     print_lent(
+        out,
         b", table",
         &table,
         table_len,
         b", behind it changed #",
         TABLE_PATTERN,
-    );
+    )?;
     print_lent(
+        out,
         b", spare",
         &spare,
         spare_len,
         b", behind it changed #\n",
         SPARE_PATTERN,
-    );
+    )
 }
 
 // Runs the plan whose lengths begin at a place, and answers where it ends.
-fn run(input: &[u8], from: usize, mode: Mode, minutes: u64, allowance: u64) -> usize {
+fn run<W: Write>(
+    out: &mut W,
+    input: &[u8],
+    from: usize,
+    mode: Mode,
+    minutes: u64,
+    allowance: u64,
+) -> io::Result<usize> {
     let n = lengths_at(input, from);
     let quiet = n.quiet;
     let mut lists = [0; 512];
     let after = numbers(input, n.next, &mut lists[0..quiet]);
-    print_lists(&lists, n);
-    run_lists(mode, minutes, allowance, &lists, n);
-    after
+    print_lists(out, &lists, n)?;
+    run_lists(out, mode, minutes, allowance, &lists, n)?;
+    Ok(after)
 }
 
 // Where the line that begins at a place ends.
@@ -235,13 +254,14 @@ fn mode_of(n: u64) -> Mode {
 }
 
 // Runs the plan whose numbers begin at a place, and answers where it ends.
-fn run_plan(input: &[u8], from: usize) -> usize {
+fn run_plan<W: Write>(out: &mut W, input: &[u8], from: usize) -> io::Result<usize> {
     let mode = number(input, from, 1);
     let minutes = number(input, mode.next, LARGEST);
     let allowance = number(input, minutes.next, LARGEST);
     let chosen = mode_of(mode.value);
-    print_mode(chosen, minutes.value, allowance.value);
+    print_mode(out, chosen, minutes.value, allowance.value)?;
     run(
+        out,
         input,
         allowance.next,
         chosen,
@@ -265,17 +285,18 @@ fn behind(at: usize, end: usize, size: usize) -> usize
 }
 
 // Runs the plans of the input, each behind its title.
-fn run_all(input: &[u8]) {
+fn run_all<W: Write>(out: &mut W, input: &[u8]) -> io::Result<()> {
     let mut at = 0;
     while at < input.len() {
         let end = line_end(input, at);
-        io::write_all(STDOUT_FILENO, &input[at..end]);
-        at = behind(at, run_plan(input, end), input.len());
+        out.write_all(&input[at..end])?;
+        at = behind(at, run_plan(out, input, end)?, input.len());
     }
+    Ok(())
 }
 
-fn main() {
-    let mut input = io::large_buffer();
-    let n = io::read_full(STDIN_FILENO, &mut input);
-    run_all(&input[..n]);
+fn main(rt: HostRuntime) -> io::Result<()> {
+    let mut input = Vec::new(rt.alloc());
+    rt.stdin().read_to_end(&mut input)?;
+    run_all(&mut rt.stdout(), &input)
 }
