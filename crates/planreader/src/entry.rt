@@ -10,7 +10,7 @@ use csv_fields::Undone;
 
 // The fields of a record: whether it keeps RFC 4180 and, where it does, how many there are (5 for more than four), where the first four
 // stand in its text and which of them hold a doubled quote, where the text ends in the file, and where the next record begins.
-#[derive(Drop)]
+#[derive(Clone, Copy)]
 pub(crate) struct Fields {
     pub sound: bool,
     pub count: usize,

@@ -13,7 +13,7 @@ use planning::{
     Fault, MOST_DELIVERIES, MOST_ENERGY, MOST_ENGINES, MOST_FUEL, MOST_LIMIT, MOST_WATTS,
 };
 
-#[derive(Drop)]
+#[derive(Clone, Copy)]
 pub(crate) enum Kind {
     Engine,
     Quiet,
@@ -21,7 +21,7 @@ pub(crate) enum Kind {
 }
 
 // What a kind of item has to keep: how many of it there may be, and the ranges of its two numbers.
-#[derive(Drop)]
+#[derive(Clone, Copy)]
 pub(crate) struct Rule {
     pub kind: Kind,
     pub most: usize,
@@ -113,12 +113,12 @@ pub(crate) fn add(
     requires { IsCut text.now fields
         × (fields.count ≡ 4)
         × Ruled rule
-        × Holding n rule.most (record { names = names.now; sizes = sizes.old; firsts = firsts.old; seconds = seconds.old }) }
+        × Holding n rule.most (record { names = names.old; sizes = sizes.old; firsts = firsts.old; seconds = seconds.old }) }
     ensures { (x : FourFields)
         → Valued text.now x
         → Adds rule n x
-        (record { names = names.entry.now; sizes = sizes.old; firsts = firsts.old; seconds = seconds.old })
-        (record { names = names.exit.now; sizes = sizes.new; firsts = firsts.new; seconds = seconds.new })
+        (record { names = names.old; sizes = sizes.old; firsts = firsts.old; seconds = seconds.old })
+        (record { names = names.new; sizes = sizes.new; firsts = firsts.new; seconds = seconds.new })
         result }
 {
     let mut buffer = [0u8; MOST_NAME_BYTES];

@@ -4,7 +4,7 @@ use Rattle.std.specs.Prelude.{◌≡◌, refl, ◌⊎◌, ℕ, suc, ◌+◌, ◌
 use Rattle.std.proofs.Common.{sym, ap, ap₂, ◌∙◌, inl, inr, add-one, arith, drop_of_length-le, drop-cons}
 use Rattle.std.proofs.Math.Option.{some}
 use Rattle.std.proofs.Math.Bool.{and-false}
-use mathlib.Core.List.{List, [], ◌∷◌, ◌++◌}
+use mathlib.Core.List.{List, [], ◌∷◌}
 use Rattle.std.proofs.Math.Seq.{take-append_seam}
 use Rattle.csv_fields.specs.declared.Undone.{Undone}
 use Rattle.csv_fields.specs.declared.Undone.TheVariants.{Length}

@@ -1,6 +1,5 @@
 -- Record 1, one check after the other, by what stands inside its fields. Assumes nothing.
 use Rattle.std.specs.Prelude.{◌≡◌, refl, true, false, List, [], ℕ, get_or}
-use Rattle.std.proofs.Common.{◌∙◌}
 use Rattle.rfc4180.specs.Fields.{raw_fields}
 use Rattle.rfc4180.specs.Text.{ascii}
 use Rattle.csv_fields.specs.Spans.{inside_of, holds_quote}
