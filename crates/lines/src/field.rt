@@ -8,6 +8,9 @@ use crate::Wrote;
 use crate::bytes::write_bytes;
 use rfc4180::{ByteClass, class_of};
 
+// The byte that stands twice between quotes.
+const DOUBLED: u8 = 0x22;
+
 // A value: whether it can be written, whether it needs quotes, and how many quotes it holds.
 #[derive(Drop)]
 pub(crate) struct ValueMeasure {
@@ -57,7 +60,7 @@ fn store_quoted(value: &[u8], out: &mut [u8], at: usize)
     let mut i = 0;
     while i < value.len() {
         let b = value[i];
-        if b == 0x22 {
+        if b == DOUBLED {
             out[to] = 0x22;
             to += 1;
         }

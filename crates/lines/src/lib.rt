@@ -12,7 +12,7 @@ pub use number::{MOST_DIGITS, write_number};
 
 // How far an output is written: the next text goes there; or a value held a byte that RFC 4180 has nowhere, or a text did not fit, and
 // nothing more is written.
-#[derive(Drop)]
+#[derive(Clone, Copy)]
 pub enum Wrote {
     Next(usize),
     Refused,

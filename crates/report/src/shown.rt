@@ -22,6 +22,7 @@ fn write_hex(b: u8, out: &mut [u8], to: Wrote) -> Wrote
 }
 
 // The letter of a byte that has an escape of its own, 0 where it has none.
+#[tactic(auto, unfolding(crate::specs::Shown::own_letter))]
 fn own_letter(b: u8) -> u8
     ensures { result ≡ own_letter b }
 {

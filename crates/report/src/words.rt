@@ -8,6 +8,7 @@ use crate::numbers::write_numbers;
 use lines::{Wrote, write_bytes, write_number};
 
 // Whether a byte stands for a number, and one is left.
+#[tactic(auto, unfolding(crate::specs::Words::takes_number))]
 fn takes_number(b: u8, used: usize, count: usize) -> bool
     ensures { result ≡ takes_number b used count }
 {

@@ -1,5 +1,5 @@
 -- Texts put in a loop. Assumes nothing.
-use Rattle.std.specs.Prelude.{◌≡◌, refl, List, [], ◌∷◌, ◌++◌, length}
+use Rattle.std.specs.Prelude.{◌≡◌, refl, List, ◌++◌, length}
 use Rattle.std.proofs.Common.{sym, ap, ◌∙◌}
 use Rattle.lines.specs.Putting.{Text, Output, put_all, Puts}
 use Rattle.lines.specs.Laws.Putting.{all_append, all-kept}

@@ -1,6 +1,6 @@
 -- A value from a place on, as a walk along it meets it: what the writer's definitions say of the byte there and of the rest.
 -- Assumes nothing.
-use Rattle.std.specs.Prelude.{◌≡◌, refl, ℕ, suc, ◌+◌, ◌≤◌, ◌<◌, Bool, true, false, cond, ◌&&◌, ◌||◌, List, [], ◌∷◌, ◌++◌, eqb, length, drop, get_or}
+use Rattle.std.specs.Prelude.{◌≡◌, refl, ℕ, suc, ◌+◌, ◌<◌, Bool, true, false, cond, ◌&&◌, ◌||◌, List, [], ◌∷◌, ◌++◌, eqb, length, drop, get_or}
 use Rattle.std.proofs.Common.{sym, ◌∙◌, arith, true≢false}
 use borrow.Author.Tests.{eqb-true, eq-eqb, ne_eqb}
 use Rattle.rfc4180.specs.declared.ByteClass.{ByteClass}

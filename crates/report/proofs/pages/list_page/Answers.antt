@@ -1,0 +1,5 @@
+use Rattle.report.proofs.Laws.Page.{page_put}
+use Rattle.report.proofs.pages.list_page.Goals as goal
+
+pub returns : goal.returns
+returns c = page_put c.write_list-next.ensures
