@@ -22,7 +22,7 @@ use records::Counted;
 // The plan of a file by value, as specs/Columns' `by_value` has it: its engines, its quiet spans and its deliveries as columns, filled from the front
 // and 0 behind the count. A name has 16 bytes, of which the first so many count; the others are 0. A quiet span has three numbers: its engine,
 // counted from 1, FROM and TO.
-#[derive(Drop)]
+#[derive(Clone, Copy)]
 pub struct FilePlan {
     pub mode: Mode,
     pub minutes: u64,
@@ -42,7 +42,7 @@ pub struct FilePlan {
 }
 
 // What a file is read as: the plan that it holds, or a refusal beside an empty plan.
-#[derive(Drop)]
+#[derive(Clone, Copy)]
 pub struct Reading {
     pub verdict: Verdict,
     pub plan: FilePlan,
