@@ -41,7 +41,7 @@ fn minutes_of(allocation: Allocation, minutes: u64) -> u64 {
 }
 
 // The allocation's answer to a plan, by `minutes_of`, and the table and the spare list of which it was lent the front.
-#[derive(Drop)]
+#[derive(Clone, Copy)]
 pub(crate) struct Answered {
     pub minutes: u64,
     pub table: [u64; 20],

@@ -4,12 +4,12 @@ use crate::numbers::{front, quotient, times};
 use crate::plans::{Plan, Shape, plan_of, plans_of};
 use crate::tally;
 use crate::tally::{Tally, print};
-use libc::STDOUT_FILENO;
 use planning::Mode;
 use report::{list_page, words_page};
+use std::io::{self, Write};
 
 // One plan in `step` of a shape, in a mode with its MINUTES.
-#[derive(Drop)]
+#[derive(Clone, Copy)]
 pub(crate) struct Group {
     pub mode: Mode,
     pub minutes: u64,
@@ -20,54 +20,70 @@ pub(crate) struct Group {
 // The most differences of a group that are printed.
 const MOST_SHOWN: u64 = 10;
 
-fn print_mode(mode: Mode) {
+fn print_mode<W: Write>(out: &mut W, mode: Mode) -> io::Result<()> {
     match mode {
-        Mode::Fixed => {
-            io::write_all(STDOUT_FILENO, b"fixed");
-        }
-        Mode::Shortest => {
-            io::write_all(STDOUT_FILENO, b"shortest");
-        }
+        Mode::Fixed => out.write_all(b"fixed"),
+        Mode::Shortest => out.write_all(b"shortest"),
     }
 }
 
 // Prints the first numbers of a list behind its name.
-fn print_front<'a>(name: &'a [u8], list: &'a [u64], count: u64) {
-    print(list_page(name, front(list, count)));
+fn print_front<'a, W: Write>(
+    out: &mut W,
+    name: &'a [u8],
+    list: &'a [u64],
+    count: u64,
+) -> io::Result<()> {
+    print(out, list_page(name, front(list, count)))
 }
 
 // Prints a plan on which the planners differ.
-fn print_difference(plan: Plan, mode: Mode, minutes: u64, answer: u64) {
-    print_mode(mode);
-    print_front(b": watts", &plan.watts, plan.engines);
-    print_front(b"; fuels", &plan.fuels, plan.engines);
-    print_front(b"; energies", &plan.energies, plan.deliveries);
-    print_front(b"; limits", &plan.limits, plan.deliveries);
-    print_front(b"; quiet", &plan.quiet, times(3, plan.spans));
-    print(words_page(b"; in # min answered #: a difference\n", &[minutes, answer]));
+fn print_difference<W: Write>(
+    out: &mut W,
+    plan: Plan,
+    mode: Mode,
+    minutes: u64,
+    answer: u64,
+) -> io::Result<()> {
+    print_mode(out, mode)?;
+    print_front(out, b": watts", &plan.watts, plan.engines)?;
+    print_front(out, b"; fuels", &plan.fuels, plan.engines)?;
+    print_front(out, b"; energies", &plan.energies, plan.deliveries)?;
+    print_front(out, b"; limits", &plan.limits, plan.deliveries)?;
+    print_front(out, b"; quiet", &plan.quiet, times(3, plan.spans))?;
+    print(
+        out,
+        words_page(b"; in # min answered #: a difference\n", &[minutes, answer]),
+    )
 }
 
 // Answers a plan both ways, compares, and counts it.
-fn check_plan(mode: Mode, minutes: u64, plan: Plan, tally: Tally) -> Tally {
+fn check_plan<W: Write>(
+    out: &mut W,
+    mode: Mode,
+    minutes: u64,
+    plan: Plan,
+    tally: Tally,
+) -> io::Result<Tally> {
     let answer = answer_of(plan, mode, minutes);
     let agreed = agrees(plan, mode, minutes, answer);
     if !agreed {
         if tally.differences < MOST_SHOWN {
-            print_difference(plan, mode, minutes, answer.minutes);
+            print_difference(out, plan, mode, minutes, answer.minutes)?;
         }
     }
-    tally::counted(
+    Ok(tally::counted(
         tally,
         plan,
         minutes,
         answer.minutes,
         agreed,
         changed(plan, answer),
-    )
+    ))
 }
 
 // Checks the plans of a group.
-fn check_plans(group: Group) -> Tally {
+fn check_plans<W: Write>(out: &mut W, group: Group) -> io::Result<Tally> {
     let shape = group.shape;
     let mode = group.mode;
     let plans = quotient(plans_of(shape), group.step);
@@ -75,41 +91,45 @@ fn check_plans(group: Group) -> Tally {
     let mut i = 0;
     while i < plans {
         let plan = plan_of(shape, times(i, group.step));
-        tally = check_plan(mode, group.minutes, plan, tally);
+        tally = check_plan(out, mode, group.minutes, plan, tally)?;
         i += 1;
     }
-    tally
+    Ok(tally)
 }
 
 // Prints what the plans of a group are.
-fn print_group(group: Group) {
+fn print_group<W: Write>(out: &mut W, group: Group) -> io::Result<()> {
     let shape = group.shape;
     let mode = group.mode;
-    print_mode(mode);
-    print(words_page(
-        b", minutes #; engines #, sizes 0 to #; deliveries #, energies 1 to #, limits 1 to #; one plan in #\n",
-        &[
-            group.minutes,
-            shape.engines,
-            shape.size,
-            shape.deliveries,
-            shape.energy,
-            shape.limit,
-            group.step,
-        ],
-    ));
+    print_mode(out, mode)?;
+    print(
+        out,
+        words_page(
+            b", minutes #; engines #, sizes 0 to #; deliveries #, energies 1 to #, limits 1 to #; one plan in #\n",
+            &[
+                group.minutes,
+                shape.engines,
+                shape.size,
+                shape.deliveries,
+                shape.energy,
+                shape.limit,
+                group.step,
+            ],
+        ),
+    )
 }
 
 // Checks the plans of a group, prints what was counted, and adds it to a total.
-pub(crate) fn check_group(group: Group, total: Tally) -> Tally {
-    let tally = check_plans(group);
-    print_group(group);
+pub(crate) fn check_group<W: Write>(out: &mut W, group: Group, total: Tally) -> io::Result<Tally> {
+    let tally = check_plans(out, group)?;
+    print_group(out, group)?;
     tally::print_tally(
+        out,
         tally,
         b", # none; # with a limit 1, # with deliveries alike, # with a capacity 0; # differences, # numbers changed behind the lent lists\n",
-    );
+    )?;
     if 1 < group.shape.ways {
-        tally::print_quiet(tally);
+        tally::print_quiet(out, tally)?;
     }
-    tally::added(total, tally)
+    Ok(tally::added(total, tally))
 }

@@ -9,7 +9,7 @@ const UNLIMITED: u64 = 1000000000;
 
 // Plans of so many engines and deliveries: sizes of engines from 0, energies and limits from 1, each up to a largest one, and for each
 // engine the first so many ways of being quiet.
-#[derive(Drop)]
+#[derive(Clone, Copy)]
 pub(crate) struct Shape {
     pub engines: u64,
     pub deliveries: u64,
@@ -44,14 +44,14 @@ pub(crate) fn quiet_shape_of(engines: u64, deliveries: u64) -> Shape {
 }
 
 // Quiet spans, three numbers each, and how many there are.
-#[derive(Drop)]
+#[derive(Clone, Copy)]
 pub(crate) struct Spans {
     pub count: u64,
     pub numbers: [u64; 18],
 }
 
 // A plan: of each list the first numbers count, one for each engine or delivery, and of `quiet` three for each span.
-#[derive(Drop)]
+#[derive(Clone, Copy)]
 pub(crate) struct Plan {
     pub engines: u64,
     pub deliveries: u64,

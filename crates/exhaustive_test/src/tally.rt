@@ -2,20 +2,20 @@
 use crate::numbers::{entry, has, plus};
 use crate::plans::{Plan, has_limit_one, has_tie};
 use crate::tasks::{running_each, task_of};
-use libc::STDOUT_FILENO;
 use report::{Page, words_page, written};
+use std::io::{self, Write};
 
-// Writes a page to standard output.
-pub(crate) fn print(page: Page) {
+// Writes a page.
+pub(crate) fn print<W: Write>(out: &mut W, page: Page) -> io::Result<()> {
     let next = page.next;
     let bytes = page.bytes;
-    io::write_all(STDOUT_FILENO, written(&bytes, next));
+    out.write_all(written(&bytes, next))
 }
 
 // Plans, those answered none, those with a limit 1, with two deliveries alike, with an engine of capacity 0, those on which the planners differ,
 // how many numbers were changed behind the lent lists, plans with an engine that is quiet in all of MINUTES, those found in fewer, just behind
 // a span, and how many plans are found at each number of minutes.
-#[derive(Drop)]
+#[derive(Clone, Copy)]
 pub(crate) struct Tally {
     pub plans: u64,
     pub none: u64,
@@ -125,39 +125,46 @@ pub(crate) fn added(total: Tally, tally: Tally) -> Tally {
 }
 
 // Prints how many plans were found at each number of minutes at which some were.
-fn print_found(found: [u64; 9]) {
+fn print_found<W: Write>(out: &mut W, found: [u64; 9]) -> io::Result<()> {
     let mut i: u64 = 1;
     while i < 9 {
         let count = entry(&found, i);
         if 0 < count {
-            print(words_page(b", # found at # min", &[count, i]));
+            print(out, words_page(b", # found at # min", &[count, i]))?;
         }
         i += 1;
     }
+    Ok(())
 }
 
 // Prints a tally, with words for its other counts.
-pub(crate) fn print_tally(tally: Tally, words: &[u8]) {
+pub(crate) fn print_tally<W: Write>(out: &mut W, tally: Tally, words: &[u8]) -> io::Result<()> {
     let found = tally.found;
-    print(words_page(b"  # plans", &[tally.plans]));
-    print_found(found);
-    print(words_page(
-        words,
-        &[
-            tally.none,
-            tally.limit_one,
-            tally.tied,
-            tally.idle,
-            tally.differences,
-            tally.changed,
-        ],
-    ));
+    print(out, words_page(b"  # plans", &[tally.plans]))?;
+    print_found(out, found)?;
+    print(
+        out,
+        words_page(
+            words,
+            &[
+                tally.none,
+                tally.limit_one,
+                tally.tied,
+                tally.idle,
+                tally.differences,
+                tally.changed,
+            ],
+        ),
+    )
 }
 
 // Prints what is counted of plans with quiet spans alone.
-pub(crate) fn print_quiet(tally: Tally) {
-    print(words_page(
-        b"  # with an engine wholly quiet, # found sooner just behind a span\n",
-        &[tally.wholly_quiet, tally.behind_span],
-    ));
+pub(crate) fn print_quiet<W: Write>(out: &mut W, tally: Tally) -> io::Result<()> {
+    print(
+        out,
+        words_page(
+            b"  # with an engine wholly quiet, # found sooner just behind a span\n",
+            &[tally.wholly_quiet, tally.behind_span],
+        ),
+    )
 }

@@ -3,7 +3,7 @@ use crate::numbers::{entry, least, plus, times};
 use crate::plans::Plan;
 
 // The capacities of engines, and deliveries to be served from them.
-#[derive(Drop)]
+#[derive(Clone, Copy)]
 pub(crate) struct Task {
     pub engines: u64,
     pub deliveries: u64,
