@@ -1,0 +1,125 @@
+-- The engine and the delivery are members of their sets, so the shifts fit and the subtractions do not wrap; the state returned is the one
+-- that the laws of laying speak of.
+use Rattle.std.proofs.Common.{◌≡◌, List, ℕ, ◌-◌, ◌*◌, ◌%◌, ◌^◌, ◌<◌, set, refl, ap, ◌∙◌, arith}
+use Rattle.planning.specs.Bounds.{most_engines}
+use Rattle.planning.specs.Tables.{at}
+use Rattle.search.specs.declared.state.State.{State}
+use Rattle.search.specs.Laws.Sets.{shifted, shifted-le}
+use Rattle.search.specs.Laws.Layout.Laying.{LaysOn, laid}
+use Rattle.search.specs.Laws.Layout.Picked.{engine-below, row_below, slot_below}
+use Rattle.search.specs.Layout.{state_in, Layable}
+use Rattle.search.specs.Sets.{engine_bits, delivery_bits}
+use Rattle.search.proofs.state.State.lay.Goals as goal
+use Rattle.search.proofs.state.State.lay.Goals.{then-remaining-eq0, else-remaining-eq0}
+
+module _ {s : State} {row slot rest i : ℕ} (can : Layable s row slot rest i) where
+  engine_below : i < most_engines
+  engine_below = engine-below can.kept i can.engine
+
+  delivery_below : row < delivery_bits
+  delivery_below = omega (arith, row_below can.kept can.picked)
+
+  -- the delivery is taken out of the sets
+  without : (before now : ℕ) → now ≡ before → now - 1 * 2 ^ row % 2 ^ delivery_bits ≡ before - 2 ^ row
+  without before now e = rw (e, shifted delivery_bits row delivery_below)
+
+  -- the rest is on the engine, which is closed where nothing remains of it
+  abbrev on_engine : (opened : ℕ) → State
+  on_engine opened = state_in s.left s.untouched (set s.amount i (at s.amount i - rest)) s.served s.row opened
+
+  emptied : (m : State) → at s.amount i - rest ≡ 0 → m ≡ on_engine (s.«open» - 1 * 2 ^ i % 2 ^ engine_bits) → LaysOn s rest i m
+  emptied m none e =
+      record {
+        same_left = ap (λ (m : State). m.left) e;
+        same_untouched = ap (λ (m : State). m.untouched) e;
+        is_amount = ap (λ (m : State). m.amount) e;
+        same_served = ap (λ (m : State). m.served) e;
+        same_row = ap (λ (m : State). m.row) e;
+        empty_open =
+            λ z. ap (λ (m : State). m.«open») e
+            ∙ ap (λ (n : ℕ). s.«open» - n) (shifted engine_bits i (omega (arith, engine_below)));
+        rest_open = λ u. absurd (omega arith);
+      }
+
+  not_emptied : (m : State) → (at s.amount i - rest ≡ 0 → ⊥) → m ≡ on_engine s.«open» → LaysOn s rest i m
+  not_emptied m some e =
+      record {
+        same_left = ap (λ (m : State). m.left) e;
+        same_untouched = ap (λ (m : State). m.untouched) e;
+        is_amount = ap (λ (m : State). m.amount) e;
+        same_served = ap (λ (m : State). m.served) e;
+        same_row = ap (λ (m : State). m.row) e;
+        empty_open = λ z. absurd (some z);
+        rest_open = λ u. ap (λ (m : State). m.«open») e;
+      }
+
+pub overflow_sub-self : goal.overflow_sub-self
+overflow_sub-self c = shifted-le engine_bits c.args.self.«open» c.args.i (omega (arith, engine_below c.requires)) c.requires.engine
+
+pub overflow_sub-self-2 : goal.overflow_sub-self-2
+overflow_sub-self-2 c =
+    let on : LaysOn c.args.self c.args.rest c.args.i c.if-remaining-eq0.self =
+    elim c.if-remaining-eq0.branch [
+      then-remaining-eq0 w ↦ emptied c.requires _ w.if-remaining-eq0.true w.self-is
+    | else-remaining-eq0 w ↦ not_emptied c.requires _ w.if-remaining-eq0.false w.self-is
+    ] in
+    rw on.same_left
+    (shifted-le delivery_bits c.args.self.left c.args.row (delivery_below c.requires) c.requires.picked.is_left)
+
+pub offset_bounds-self-slot : goal.offset_bounds-self-slot
+offset_bounds-self-slot c = omega (arith, slot_below c.requires.kept c.requires.picked c.if-slot-ne-NO_SLOT.true)
+
+pub bounds-self-slot : goal.bounds-self-slot
+bounds-self-slot c = slot_below c.requires.kept c.requires.picked c.if-slot-ne-NO_SLOT.true
+
+pub overflow_sub-self-else-slot-ne-NO_SLOT : goal.overflow_sub-self-else-slot-ne-NO_SLOT
+overflow_sub-self-else-slot-ne-NO_SLOT c =
+    let on : LaysOn c.args.self c.args.rest c.args.i c.if-remaining-eq0.self =
+    elim c.if-remaining-eq0.branch [
+      then-remaining-eq0 w ↦ emptied c.requires _ w.if-remaining-eq0.true w.self-is
+    | else-remaining-eq0 w ↦ not_emptied c.requires _ w.if-remaining-eq0.false w.self-is
+    ] in
+    rw on.same_untouched
+    (shifted-le delivery_bits c.args.self.untouched c.args.row (delivery_below c.requires) (c.requires.picked.is_slot.fresh c.if-slot-ne-NO_SLOT.false))
+
+pub returns-then-slot-ne-NO_SLOT : goal.returns-then-slot-ne-NO_SLOT
+returns-then-slot-ne-NO_SLOT c energy limit kept picked one =
+    let on : LaysOn c.args.self c.args.rest c.args.i c.if-remaining-eq0.self =
+    elim c.if-remaining-eq0.branch [
+      then-remaining-eq0 w ↦ emptied c.requires _ w.if-remaining-eq0.true w.self-is
+    | else-remaining-eq0 w ↦ not_emptied c.requires _ w.if-remaining-eq0.false w.self-is
+    ] in
+    laid kept picked one c.requires.engine c.requires.enough
+    (record {
+      is_left = without c.requires c.args.self.left c.if-remaining-eq0.self.left on.same_left;
+      is_untouched = record { begun = λ l. on.same_untouched; fresh = λ z. absurd (c.if-slot-ne-NO_SLOT.true z) };
+      is_amount = on.is_amount;
+      begun_served = λ l. ap (λ (xs : List ℕ). set xs c.args.slot 0) on.same_served;
+      fresh_served = λ z. absurd (c.if-slot-ne-NO_SLOT.true z);
+      is_row = on.same_row;
+      empty_open = on.empty_open;
+      rest_open = on.rest_open;
+    })
+
+pub returns-else-slot-ne-NO_SLOT : goal.returns-else-slot-ne-NO_SLOT
+returns-else-slot-ne-NO_SLOT c energy limit kept picked one =
+    let on : LaysOn c.args.self c.args.rest c.args.i c.if-remaining-eq0.self =
+    elim c.if-remaining-eq0.branch [
+      then-remaining-eq0 w ↦ emptied c.requires _ w.if-remaining-eq0.true w.self-is
+    | else-remaining-eq0 w ↦ not_emptied c.requires _ w.if-remaining-eq0.false w.self-is
+    ] in
+    laid kept picked one c.requires.engine c.requires.enough
+    (record {
+      is_left = without c.requires c.args.self.left c.if-remaining-eq0.self.left on.same_left;
+      is_untouched =
+          record {
+            begun = λ l. absurd (l c.if-slot-ne-NO_SLOT.false);
+            fresh = λ z. without c.requires c.args.self.untouched c.if-remaining-eq0.self.untouched on.same_untouched;
+          };
+      is_amount = on.is_amount;
+      begun_served = λ l. absurd (l c.if-slot-ne-NO_SLOT.false);
+      fresh_served = λ z. on.same_served;
+      is_row = on.same_row;
+      empty_open = on.empty_open;
+      rest_open = on.rest_open;
+    })
