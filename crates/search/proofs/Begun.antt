@@ -1,9 +1,9 @@
 -- A delivery that is left and begun has the slot that is found for it, and its place in the arrays.
 -- Assumes nothing.
 use Rattle.std.proofs.Common.{◌≡◌, ◌≢◌, true, false, List, ℕ, ◌^◌, ◌<◌, ◌∙◌, arith}
-use Rattle.planning.specs.Bounds.{most_engines, most_deliveries}
+use Rattle.planning.specs.Bounds.{most_engines}
 use Rattle.planning.specs.Tables.{at}
-use Rattle.search.specs.Laws.Layout.Deliveries.{left-inside, slot_found, slot-served}
+use Rattle.search.specs.Laws.Layout.Deliveries.{slot_found, slot-served}
 use Rattle.search.specs.Laws.Layout.Serving.{open_below}
 use Rattle.search.specs.Laws.Layout.Slots.{holds-inside, served_touched}
 use Rattle.search.specs.Layout.{holds, served_at, no_slot, state_in, Kept}

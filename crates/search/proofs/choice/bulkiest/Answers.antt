@@ -47,17 +47,17 @@ pub loop-set-preserved : goal.loop-set-preserved
 loop-set-preserved c =
     rw (alone c.requires c.ranges.left.fits c.loop-set-test.true c.loop-set.invariant.ahead)
     (elim c.if-best-eq-NO_ROW.branch [
-      then-best-eq-NO_ROW w ↦
-        rw w.best-is
-        (best_taken c.requires delivery_bits _ _ c.ranges.left.fits c.loop-set-test.true c.loop-set.invariant _ c.candidate_at-next.ensures
-        (elim w.then-best-eq-NO_ROW.branch [
-          then-best-eq-NO_ROW-via-then-best-eq-NO_ROW z ↦ inl z.if-best-eq-NO_ROW.true
-        | then-best-eq-NO_ROW-via-else-best-eq-NO_ROW+then-bulkier z ↦ inr (sym z.bulkier.ensures ∙ z.if-bulkier.true)
-        ]))
-    | else-best-eq-NO_ROW+else-bulkier w ↦
-        rw w.best-is
-        (best_kept c.requires delivery_bits _ _ c.ranges.left.fits c.loop-set-test.true c.loop-set.invariant _ c.candidate_at-next.ensures
-        w.if-best-eq-NO_ROW.false (sym w.bulkier.ensures ∙ w.if-bulkier.false))
+      | then-best-eq-NO_ROW w ↦
+          rw w.best-is
+          (best_taken c.requires delivery_bits _ _ c.ranges.left.fits c.loop-set-test.true c.loop-set.invariant _ c.candidate_at-next.ensures
+          (elim w.then-best-eq-NO_ROW.branch [
+            | then-best-eq-NO_ROW-via-then-best-eq-NO_ROW z ↦ inl z.if-best-eq-NO_ROW.true
+            | then-best-eq-NO_ROW-via-else-best-eq-NO_ROW+then-bulkier z ↦ inr (sym z.bulkier.ensures ∙ z.if-bulkier.true)
+          ]))
+      | else-best-eq-NO_ROW+else-bulkier w ↦
+          rw w.best-is
+          (best_kept c.requires delivery_bits _ _ c.ranges.left.fits c.loop-set-test.true c.loop-set.invariant _ c.candidate_at-next.ensures
+          w.if-best-eq-NO_ROW.false (sym w.bulkier.ensures ∙ w.if-bulkier.false))
     ])
 
 pub returns : goal.returns

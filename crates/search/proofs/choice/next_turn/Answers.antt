@@ -1,5 +1,5 @@
 -- The turn is the step of document 01 by the choice, and its delivery is one left.
-use Rattle.std.proofs.Common.{◌≡◌, ◌≢◌, true, false, Bool, List, ℕ, ◌+◌, ◌≤◌, eqb, sym, ◌∙◌, eqb-true, le-leb, arith}
+use Rattle.std.proofs.Common.{◌≡◌, ◌≢◌, false, Bool, List, ℕ, ◌+◌, ◌≤◌, eqb, sym, ◌∙◌, eqb-true, le-leb, arith}
 use Rattle.std.proofs.lemmas.Bool.{eqb-false, lt-leb}
 use Rattle.std.specs.Int.Count.{ones}
 use Rattle.planning.specs.Bounds.{most_limit}
@@ -81,11 +81,10 @@ returns c =
     compared c.requires c.bulkiest-best.result c.bulkiest-best.ensures c.if-best-eq-NO_ROW.false _ c.one_more_is_limit.ensures
     ∙ c.if-one_more_is_limit.false in
     record {
-      picked =
-          (
-            left-picked best,
-            rw (← best.delivery.is_limit) (several c.requires c.bulkiest-best.result c.bulkiest-best.ensures c.if-best-eq-NO_ROW.false not_one),
-          );
+      picked = (
+        left-picked best,
+        rw (← best.delivery.is_limit) (several c.requires c.bulkiest-best.result c.bulkiest-best.ensures c.if-best-eq-NO_ROW.false not_one),
+      );
       step = λ engines deliveries sized.
           sym
           (step-some c.requires c.bulkiest-best.result c.bulkiest-best.ensures engines deliveries sized c.if-best-eq-NO_ROW.false

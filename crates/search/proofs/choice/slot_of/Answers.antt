@@ -47,8 +47,8 @@ loop-set-preserved c =
     c.loop-set-test.true
     (inside c.closed-set.ensures c.loop-set.invariant.ahead c.loop-set-test.true)
     (elim c.if-row-k.branch [
-      then-row-k+else-served-k-ne0 w ↦ holds-free _ _ _ _ w.if-served-k-ne0.false
-    | else-row-k w ↦ holds-other _ _ _ _ w.if-row-k.false
+      | then-row-k+else-served-k-ne0 w ↦ holds-free _ _ _ _ w.if-served-k-ne0.false
+      | else-row-k w ↦ holds-other _ _ _ _ w.if-row-k.false
     ]))
 
 pub returns : goal.returns

@@ -47,15 +47,15 @@ loop-set-preserved c =
     rw (alone fits some ahead c.args.amount.now c.requires.0 c.requires.1)
     (least-next engine_bits c.args.«open» c.args.amount.now c.loop-set.set c.loop-set.least fits some c.loop-set.invariant c.if-least-eq0.least
     (elim c.if-least-eq0.branch [
-      then-least-eq0 w ↦
-        w.least-is
-        ∙ sym
-        (smaller-taken _ _ above
-        (elim w.then-least-eq0.branch [
-          then-least-eq0-via-then-least-eq0 z ↦ inl z.if-least-eq0.true
-        | then-least-eq0-via-else-least-eq0+then-remaining-least z ↦ inr z.if-remaining-least.true
-        ]))
-    | else-least-eq0+else-remaining-least w ↦ w.least-is ∙ sym (smaller-kept _ _ above w.if-least-eq0.false w.if-remaining-least.false)
+      | then-least-eq0 w ↦
+          w.least-is
+          ∙ sym
+          (smaller-taken _ _ above
+          (elim w.then-least-eq0.branch [
+            | then-least-eq0-via-then-least-eq0 z ↦ inl z.if-least-eq0.true
+            | then-least-eq0-via-else-least-eq0+then-remaining-least z ↦ inr z.if-remaining-least.true
+          ]))
+      | else-least-eq0+else-remaining-least w ↦ w.least-is ∙ sym (smaller-kept _ _ above w.if-least-eq0.false w.if-remaining-least.false)
     ]))
 
 pub returns : goal.returns

@@ -36,16 +36,16 @@ loop-i-preserved c =
     turn c.args.table.now c.args.remaining c.loop-i.table c.loop-i.after c.args.from c.args.engines c.args.rest c.loop-i.rest c.loop-i.i
     c.loop-i-test.true c.requires.0 c.requires.1 c.loop-i.invariant c.if-rest-has.table c.if-rest-has.after in
     elim c.if-rest-has.branch [
-      then-rest-has w ↦
-        next w.wide.result (at c.loop-i.after c.loop-i.i - c.loop-i.rest) c.if-rest-has.rest w.table-is w.after-is
-        (omega (arith, w.wide.ensures, w.if-rest-has.true))
-        refl
-        (omega (arith, w.rest-is, w.if-rest-has.true))
-    | else-rest-has w ↦
-        next w.wide-else-rest-has.result 0 c.if-rest-has.rest w.table-is w.after-is
-        (omega (arith, w.wide-else-rest-has.ensures, w.if-rest-has.false))
-        (omega (arith, w.if-rest-has.false))
-        w.rest-is
+      | then-rest-has w ↦
+          next w.wide.result (at c.loop-i.after c.loop-i.i - c.loop-i.rest) c.if-rest-has.rest w.table-is w.after-is
+          (omega (arith, w.wide.ensures, w.if-rest-has.true))
+          refl
+          (omega (arith, w.rest-is, w.if-rest-has.true))
+      | else-rest-has w ↦
+          next w.wide-else-rest-has.result 0 c.if-rest-has.rest w.table-is w.after-is
+          (omega (arith, w.wide-else-rest-has.ensures, w.if-rest-has.false))
+          (omega (arith, w.if-rest-has.false))
+          w.rest-is
     ]
 
 pub returns-clause-row : goal.returns-clause-row

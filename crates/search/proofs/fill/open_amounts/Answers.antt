@@ -40,11 +40,11 @@ loop-i-preserved c =
     let i = c.loop-i.i in
     turn opened amount out i c.loop-i-test.true c.loop-i.invariant c.if-open-i-eq1.out
     (elim c.if-open-i-eq1.branch [
-      then-open-i-eq1 w ↦ w.out-is ∙ ap (set out i) (sym (remaining_open opened amount i (member opened i w.if-open-i-eq1.true)))
-    | else-open-i-eq1 w ↦
-        w.out-is
-        ∙ sym (set-get_or out i 0)
-        ∙ ap (set out i) (c.loop-i.invariant.3 i (omega arith) ∙ sym (remaining-closed opened amount i (no_member opened i w.if-open-i-eq1.false)))
+      | then-open-i-eq1 w ↦ w.out-is ∙ ap (set out i) (sym (remaining_open opened amount i (member opened i w.if-open-i-eq1.true)))
+      | else-open-i-eq1 w ↦
+          w.out-is
+          ∙ sym (set-get_or out i 0)
+          ∙ ap (set out i) (c.loop-i.invariant.3 i (omega arith) ∙ sym (remaining-closed opened amount i (no_member opened i w.if-open-i-eq1.false)))
     ])
 
 pub returns : goal.returns

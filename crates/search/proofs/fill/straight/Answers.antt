@@ -1,6 +1,6 @@
 -- A turn writes one row more of straight fill's table.
-use Rattle.std.proofs.Common.{◌≡◌, ℕ, ◌*◌, ◌≤◌, refl, sym, ap, ◌∙◌, length, take, arith, rules}
-use Rattle.planning.specs.Bounds.{most_engines, most_deliveries}
+use Rattle.std.proofs.Common.{◌≡◌, ℕ, ◌*◌, refl, sym, ap, ◌∙◌, length, take, arith, rules}
+use Rattle.planning.specs.Bounds.{most_engines}
 use Rattle.planning.proofs.Laws.Tables.{length-listed, at_listed}
 use Rattle.planning.specs.Tables.{listed}
 use Rattle.planning.specs.Search.{straight_fill}
@@ -10,19 +10,18 @@ use Rattle.search.proofs.fill.straight.Invariants.{rests}
 use Rattle.search.proofs.fill.straight.Goals as goal
 
 pub loop-p-init : goal.loop-p-init
-loop-p-init c =
-    (
-      omega arith,
-      c.requires.1.table,
-      ap length c.open_amounts-remaining.ensures ∙ length-listed most_engines _,
-      table_none
-          c.args.table.now
-          (rests c.args.deliveries c.args.untouched c.args.amount.now c.args.served.now c.args.row.now c.args.energy.now)
-          c.open_amounts-remaining.result
-          c.args.engines
-          0
-          refl,
-    )
+loop-p-init c = (
+  omega arith,
+  c.requires.1.table,
+  ap length c.open_amounts-remaining.ensures ∙ length-listed most_engines _,
+  table_none
+      c.args.table.now
+      (rests c.args.deliveries c.args.untouched c.args.amount.now c.args.served.now c.args.row.now c.args.energy.now)
+      c.open_amounts-remaining.result
+      c.args.engines
+      0
+      refl,
+)
 
 pub loop-p-preserved : goal.loop-p-preserved
 loop-p-preserved c =

@@ -1,5 +1,5 @@
 -- Step A by the two sums, the other steps by the search from the first state.
-use Rattle.std.proofs.Common.{List, ◌≤◌, sym, ap, ◌∙◌, arith}
+use Rattle.std.proofs.Common.{◌≤◌, sym, ap, ◌∙◌, arith}
 use Rattle.planning.specs.Search.{Result, total}
 use Rattle.search.specs.Laws.Ranges.{too_much, begun, searched-from}
 use Rattle.search.specs.Promises.{written}

@@ -50,12 +50,12 @@ loop-i-preserved c =
     let shift = shifted engine_bits c.loop-i.i (omega arith) in
     let turn : (c.if-capacities-i-ne0.«open» < 2 ^ (c.loop-i.i + 1)) × Members c.args.capacities.now c.if-capacities-i-ne0.«open» (c.loop-i.i + 1) =
     elim c.if-capacities-i-ne0.branch [
-      then-capacities-i-ne0 w ↦
-        opened c.args.capacities.now c.loop-i.i c.loop-i.«open» c.if-capacities-i-ne0.«open» c.loop-i.invariant.1 c.loop-i.invariant.2
-        (omega (arith, w.if-capacities-i-ne0.true)) (w.open-is ∙ rw shift)
-    | else-capacities-i-ne0 w ↦
-        passed c.args.capacities.now c.loop-i.i c.loop-i.«open» c.if-capacities-i-ne0.«open» c.loop-i.invariant.1 c.loop-i.invariant.2
-        w.if-capacities-i-ne0.false w.open-is
+      | then-capacities-i-ne0 w ↦
+          opened c.args.capacities.now c.loop-i.i c.loop-i.«open» c.if-capacities-i-ne0.«open» c.loop-i.invariant.1 c.loop-i.invariant.2
+          (omega (arith, w.if-capacities-i-ne0.true)) (w.open-is ∙ rw shift)
+      | else-capacities-i-ne0 w ↦
+          passed c.args.capacities.now c.loop-i.i c.loop-i.«open» c.if-capacities-i-ne0.«open» c.loop-i.invariant.1 c.loop-i.invariant.2
+          w.if-capacities-i-ne0.false w.open-is
     ] in
     (omega arith, turn.0, turn.1)
 

@@ -1,6 +1,6 @@
 -- The engine and the delivery are members of their sets, so the shifts fit and the subtractions do not wrap; the state returned is the one
 -- that the laws of laying speak of.
-use Rattle.std.proofs.Common.{◌≡◌, List, ℕ, ◌-◌, ◌*◌, ◌%◌, ◌^◌, ◌<◌, set, refl, ap, ◌∙◌, arith}
+use Rattle.std.proofs.Common.{◌≡◌, List, ℕ, ◌-◌, ◌*◌, ◌%◌, ◌^◌, ◌<◌, set, ap, ◌∙◌, arith}
 use Rattle.planning.specs.Bounds.{most_engines}
 use Rattle.planning.specs.Tables.{at}
 use Rattle.search.specs.declared.state.State.{State}
@@ -60,8 +60,8 @@ pub overflow_sub-self-2 : goal.overflow_sub-self-2
 overflow_sub-self-2 c =
     let on : LaysOn c.args.self c.args.rest c.args.i c.if-remaining-eq0.self =
     elim c.if-remaining-eq0.branch [
-      then-remaining-eq0 w ↦ emptied c.requires _ w.if-remaining-eq0.true w.self-is
-    | else-remaining-eq0 w ↦ not_emptied c.requires _ w.if-remaining-eq0.false w.self-is
+      | then-remaining-eq0 w ↦ emptied c.requires _ w.if-remaining-eq0.true w.self-is
+      | else-remaining-eq0 w ↦ not_emptied c.requires _ w.if-remaining-eq0.false w.self-is
     ] in
     rw on.same_left
     (shifted-le delivery_bits c.args.self.left c.args.row (delivery_below c.requires) c.requires.picked.is_left)
@@ -76,8 +76,8 @@ pub overflow_sub-self-else-slot-ne-NO_SLOT : goal.overflow_sub-self-else-slot-ne
 overflow_sub-self-else-slot-ne-NO_SLOT c =
     let on : LaysOn c.args.self c.args.rest c.args.i c.if-remaining-eq0.self =
     elim c.if-remaining-eq0.branch [
-      then-remaining-eq0 w ↦ emptied c.requires _ w.if-remaining-eq0.true w.self-is
-    | else-remaining-eq0 w ↦ not_emptied c.requires _ w.if-remaining-eq0.false w.self-is
+      | then-remaining-eq0 w ↦ emptied c.requires _ w.if-remaining-eq0.true w.self-is
+      | else-remaining-eq0 w ↦ not_emptied c.requires _ w.if-remaining-eq0.false w.self-is
     ] in
     rw on.same_untouched
     (shifted-le delivery_bits c.args.self.untouched c.args.row (delivery_below c.requires) (c.requires.picked.is_slot.fresh c.if-slot-ne-NO_SLOT.false))
@@ -86,8 +86,8 @@ pub returns-then-slot-ne-NO_SLOT : goal.returns-then-slot-ne-NO_SLOT
 returns-then-slot-ne-NO_SLOT c energy limit kept picked one =
     let on : LaysOn c.args.self c.args.rest c.args.i c.if-remaining-eq0.self =
     elim c.if-remaining-eq0.branch [
-      then-remaining-eq0 w ↦ emptied c.requires _ w.if-remaining-eq0.true w.self-is
-    | else-remaining-eq0 w ↦ not_emptied c.requires _ w.if-remaining-eq0.false w.self-is
+      | then-remaining-eq0 w ↦ emptied c.requires _ w.if-remaining-eq0.true w.self-is
+      | else-remaining-eq0 w ↦ not_emptied c.requires _ w.if-remaining-eq0.false w.self-is
     ] in
     laid kept picked one c.requires.engine c.requires.enough
     (record {
@@ -105,8 +105,8 @@ pub returns-else-slot-ne-NO_SLOT : goal.returns-else-slot-ne-NO_SLOT
 returns-else-slot-ne-NO_SLOT c energy limit kept picked one =
     let on : LaysOn c.args.self c.args.rest c.args.i c.if-remaining-eq0.self =
     elim c.if-remaining-eq0.branch [
-      then-remaining-eq0 w ↦ emptied c.requires _ w.if-remaining-eq0.true w.self-is
-    | else-remaining-eq0 w ↦ not_emptied c.requires _ w.if-remaining-eq0.false w.self-is
+      | then-remaining-eq0 w ↦ emptied c.requires _ w.if-remaining-eq0.true w.self-is
+      | else-remaining-eq0 w ↦ not_emptied c.requires _ w.if-remaining-eq0.false w.self-is
     ] in
     laid kept picked one c.requires.engine c.requires.enough
     (record {
