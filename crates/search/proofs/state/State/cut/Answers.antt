@@ -50,7 +50,13 @@ pub bounds-self-slot-then-slot-ne-NO_SLOT : goal.bounds-self-slot-then-slot-ne-N
 bounds-self-slot-then-slot-ne-NO_SLOT c = slot_inside c.requires c.if-slot-ne-NO_SLOT.true
 
 pub overflow_add-self : goal.overflow_add-self
-overflow_add-self c = omega (arith, serving c.requires, bit_below c.args.i (engine_below c.requires))
+overflow_add-self c =
+    omega (
+      arith,
+      serving c.requires,
+      bit_below c.args.i (engine_below c.requires),
+      bit_below c.args.slot (slot_inside c.requires c.if-slot-ne-NO_SLOT.true),
+    )
 
 pub offset_bounds-self-slot-then-slot-ne-NO_SLOT-2 : goal.offset_bounds-self-slot-then-slot-ne-NO_SLOT-2
 offset_bounds-self-slot-then-slot-ne-NO_SLOT-2 c = omega (arith, slot_inside c.requires c.if-slot-ne-NO_SLOT.true)

@@ -58,12 +58,12 @@ overflow_sub-self c = shifted-le engine_bits c.args.self.«open» c.args.i (omeg
 
 pub overflow_sub-self-2 : goal.overflow_sub-self-2
 overflow_sub-self-2 c =
-    let on : LaysOn c.args.self c.args.rest c.args.i c.if-remaining-eq0.self =
+    let same : c.if-remaining-eq0.self.left ≡ c.args.self.left =
     elim c.if-remaining-eq0.branch [
-      | then-remaining-eq0 w ↦ emptied c.requires _ w.if-remaining-eq0.true w.self-is
-      | else-remaining-eq0 w ↦ not_emptied c.requires _ w.if-remaining-eq0.false w.self-is
+      | then-remaining-eq0 w ↦ ap (λ (m : State). m.left) w.self-is
+      | else-remaining-eq0 w ↦ ap (λ (m : State). m.left) w.self-is
     ] in
-    rw on.same_left
+    rw same
     (shifted-le delivery_bits c.args.self.left c.args.row (delivery_below c.requires) c.requires.picked.is_left)
 
 pub offset_bounds-self-slot : goal.offset_bounds-self-slot
@@ -74,12 +74,12 @@ bounds-self-slot c = slot_below c.requires.kept c.requires.picked c.if-slot-ne-N
 
 pub overflow_sub-self-else-slot-ne-NO_SLOT : goal.overflow_sub-self-else-slot-ne-NO_SLOT
 overflow_sub-self-else-slot-ne-NO_SLOT c =
-    let on : LaysOn c.args.self c.args.rest c.args.i c.if-remaining-eq0.self =
+    let same : c.if-remaining-eq0.self.untouched ≡ c.args.self.untouched =
     elim c.if-remaining-eq0.branch [
-      | then-remaining-eq0 w ↦ emptied c.requires _ w.if-remaining-eq0.true w.self-is
-      | else-remaining-eq0 w ↦ not_emptied c.requires _ w.if-remaining-eq0.false w.self-is
+      | then-remaining-eq0 w ↦ ap (λ (m : State). m.untouched) w.self-is
+      | else-remaining-eq0 w ↦ ap (λ (m : State). m.untouched) w.self-is
     ] in
-    rw on.same_untouched
+    rw same
     (shifted-le delivery_bits c.args.self.untouched c.args.row (delivery_below c.requires) (c.requires.picked.is_slot.fresh c.if-slot-ne-NO_SLOT.false))
 
 pub returns-then-slot-ne-NO_SLOT : goal.returns-then-slot-ne-NO_SLOT
