@@ -35,6 +35,7 @@ pub struct LookupReply {
 }
 
 // 0 is fixed; 1 is shortest, and what stands for a number that is no mode.
+#[tactic(auto, unfolding(crate::specs::Numbers::mode_of))]
 fn mode_of(mode: u64) -> Mode
     ensures { result ≡ mode_of mode }
 {
@@ -46,12 +47,14 @@ fn mode_of(mode: u64) -> Mode
 }
 
 // The minutes, or 0 with a number that is no mode: both are refused by 6 at the plan's record, and minutes are the first that 6 looks at.
+#[tactic(auto, unfolding(crate::specs::Numbers::is_mode, crate::specs::Numbers::minutes_under))]
 fn minutes_under(mode: u64, minutes: u64) -> u64
     ensures { result ≡ minutes_under mode minutes }
 {
     if mode <= 1 { minutes } else { 0 }
 }
 
+#[tactic(auto, unfolding(crate::specs::Replies::word_of))]
 fn word_of(outcome: Outcome) -> u64
     ensures { result ≡ word_of outcome }
 {
@@ -62,6 +65,7 @@ fn word_of(outcome: Outcome) -> u64
     }
 }
 
+#[tactic(auto, unfolding(crate::specs::Replies::answered_by))]
 fn answered(answer: Answer, length: u64) -> PlanReply
     ensures { result ≡ answered_by answer length }
 {
@@ -76,6 +80,7 @@ fn answered(answer: Answer, length: u64) -> PlanReply
     }
 }
 
+#[tactic(auto, unfolding(crate::specs::Replies::refused_by))]
 fn refused(refusal: Refusal) -> PlanReply
     ensures { result ≡ refused_by refusal }
 {

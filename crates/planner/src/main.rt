@@ -6,9 +6,10 @@ ghost use Rattle.planfile.specs.Print.{longest_print};
 ghost use Rattle.planfile.specs.Promises.{ProgramPrints};
 ghost use Rattle.planner.specs.Input.{WithinBuffer};
 
-use libc::{STDIN_FILENO, STDOUT_FILENO};
 use planfile::{FileAnswer, LONGEST_PRINT, MOST_BYTES};
 use planning::MOST_ENGINES;
+use std::io;
+use std::io::{Read, Write};
 
 // What reading comes to: so many bytes up to the end of the input or of the buffer, or a failure.
 #[derive(Drop)]
@@ -17,29 +18,25 @@ enum Input {
     Failed,
 }
 
-// Reads standard input to its end, or until the buffer is full. A read that a signal interrupts is tried again; half a file may be a valid
-// plan, so any other failure is told apart from the end. A proved loop has to end: it counts down from a number that no run uses up.
-fn read_input(buffer: &mut [u8]) -> Input
+// Reads to the end of the input, or until the buffer is full. A read that a signal interrupts is tried again; half a file may be a valid
+// plan, so any other failure is told apart from the end. A proved loop has to end: it counts up to a number that no run comes to.
+fn read_input<R: Read>(from: &mut R, buffer: &mut [u8]) -> Input
     ensures { WithinBuffer result (length buffer.new) }
 {
     let mut filled = 0;
-    let mut turns = u64::MAX;
-    while 0 < turns {
+    for _ in 0..u64::MAX {
         if filled == buffer.len() {
             return Input::Bytes(filled);
         }
-        let got = libc::read(STDIN_FILENO, &mut buffer[filled..]);
-        if got == 0 {
-            return Input::Bytes(filled);
-        }
-        if got < 0 {
-            if os::errno() != libc::EINTR {
-                return Input::Failed;
+        match from.read(&mut buffer[filled..]) {
+            Ok(0) => return Input::Bytes(filled),
+            Ok(got) => filled += got,
+            Err(error) => {
+                if error.kind() != io::ErrorKind::Interrupted {
+                    return Input::Failed;
+                }
             }
-        } else {
-            filled += io::count(got, &buffer[filled..]);
         }
-        turns -= 1;
     }
     Input::Failed
 }
@@ -62,20 +59,18 @@ fn print_of(file: &[u8], output: &mut [u8]) -> usize
 }
 
 // Plans a file and prints.
-fn plan(file: &[u8]) {
+fn plan<W: Write>(file: &[u8], to: &mut W) -> io::Result<()> {
     let mut output = [0u8; LONGEST_PRINT];
     let n = print_of(file, &mut output);
-    if !io::write_all(STDOUT_FILENO, &output[..n]) {
-        os::fail(b"planner: write");
-    }
+    to.write_all(&output[..n])
 }
 
-fn main() {
+fn main(rt: HostRuntime) -> io::Result<()> {
     // one byte more than a file may have, which is enough to refuse it by 1
     let mut file = [0u8; MOST_BYTES + 1];
-    let input = read_input(&mut file);
+    let input = read_input(&mut rt.stdin(), &mut file);
     match input {
-        Input::Bytes(n) => plan(&file[..n]),
-        Input::Failed => os::fail(b"planner: read"),
+        Input::Bytes(n) => plan(&file[..n], &mut rt.stdout()),
+        Input::Failed => Err(io::Error::other("planner: read")),
     }
 }
