@@ -145,16 +145,16 @@ allowance-each allowance (suc n) eligible try try' h i made =
     (λ t. each_engine n eligible try' (up_to allowance) (i + 1) t) (h i (made + 1))
     (λ t. allowance-each allowance n eligible try try' h (i + 1) t)
 
-allowance-perform : (allowance : ℕ) (step : Step) (go_to_b goToB' : State → ℕ → Result) (s : State) (made : ℕ)
-    → ((after : State) (t : ℕ) → WithAllowance allowance t (go_to_b after t) (goToB' after t))
-    → WithAllowance allowance made (perform step go_to_b unlimited s made) (perform step goToB' (up_to allowance) s made)
+allowance-perform : (allowance : ℕ) (step : Step) (go_to_b go_to_b' : State → ℕ → Result) (s : State) (made : ℕ)
+    → ((after : State) (t : ℕ) → WithAllowance allowance t (go_to_b after t) (go_to_b' after t))
+    → WithAllowance allowance made (perform step go_to_b unlimited s made) (perform step go_to_b' (up_to allowance) s made)
 unfolding perform tries_of
-allowance-perform allowance finished go_to_b goToB' s made h = at_once allowance made _ refl (found-not-stopped made _)
-allowance-perform allowance fills go_to_b goToB' s made h = at_once allowance made _ refl (found-not-stopped made _)
-allowance-perform allowance (lays p) go_to_b goToB' s made h =
+allowance-perform allowance finished go_to_b go_to_b' s made h = at_once allowance made _ refl (found-not-stopped made _)
+allowance-perform allowance fills go_to_b go_to_b' s made h = at_once allowance made _ refl (found-not-stopped made _)
+allowance-perform allowance (lays p) go_to_b go_to_b' s made h =
     allowance-each allowance (length s.remaining) (λ i. can_lay s p i) _ _
     (λ i t. allowance-piece allowance t (cell (length s.remaining) p i) (at s.rest p) _ _ (h (after_laying s p i) t)) 0 made
-allowance-perform allowance (cuts p) go_to_b goToB' s made h =
+allowance-perform allowance (cuts p) go_to_b go_to_b' s made h =
     allowance-each allowance (length s.remaining) (λ i. can_cut s p i) _ _
     (λ i t. allowance-piece allowance t (cell (length s.remaining) p i) (at s.remaining i) _ _ (h (after_cutting s p i) t)) 0 made
 
