@@ -11,7 +11,7 @@ ghost use Rattle.checks.specs.Checked.{call_lent, checked_of};
 use planning::{Mode, Plan, Verdict};
 
 // What the checks come to. A refused call leaves an empty plan.
-#[derive(Drop)]
+#[derive(Clone, Copy)]
 pub struct Checked {
     pub verdict: Verdict,
     pub plan: Plan,

@@ -1,4 +1,4 @@
-// Runs the crate csv over the examples on standard input: RFC 4180's own, records that break its grammar, and values to write. Each
+// Runs the crate csv_fields over the examples on standard input: RFC 4180's own, records that break its grammar, and values to write. Each
 // example is a letter, R for a file to read and W for a value to write, the lengths of its title and of its bytes as decimal numbers with a
 // byte behind each, its title, and its bytes. Where standard input cannot be read or standard output cannot be written, that error ends it.
 #![tactic(auto)]

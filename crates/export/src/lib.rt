@@ -14,7 +14,7 @@ use planning::{Allocation, Answer, Lookup, Mode, Outcome, Refusal};
 // What planning comes to: the word is 0 found, 1 none, 2 stopped, 3 refused. An answer has its minutes and tries, and with a file the
 // length of its print; a refusal has its number and place. The other numbers are 0.
 #[repr(C)]
-#[derive(Drop)]
+#[derive(Clone, Copy)]
 pub struct PlanReply {
     pub word: u64,
     pub minutes: u64,
@@ -26,7 +26,7 @@ pub struct PlanReply {
 
 // What a spare lookup comes to: the word is 0 where an engine is named, 1 none, 3 refused. The engine is counted from 0.
 #[repr(C)]
-#[derive(Drop)]
+#[derive(Clone, Copy)]
 pub struct LookupReply {
     pub word: u64,
     pub engine: u64,

@@ -1,4 +1,4 @@
--- The plan file: the definitions of document 01, what is proved about them, and evaluated files.
+-- The plan file: the definitions of document 01. What is proved about them, and evaluated files, stand in proofs/.
 pub mod Bounds
 pub mod FileCall
 pub mod FilePlan

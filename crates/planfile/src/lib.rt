@@ -16,7 +16,7 @@ pub const MOST_NAME_BYTE: u8 = 0x7E;
 pub const LONGEST_PRINT: usize = 27 + (MOST_ENGINES + MOST_DELIVERIES) * 88;
 
 // What the call with a file returns: the answer with the length of the print, or a refusal.
-#[derive(Drop)]
+#[derive(Clone, Copy)]
 pub enum FileAnswer {
     Printed(Answer, usize),
     Refused(Refusal),

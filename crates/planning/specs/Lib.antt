@@ -1,4 +1,4 @@
--- Planning: the definitions of document 01, what is proved about them, and evaluated plans.
+-- Planning: the definitions of document 01. What is proved about them, and evaluated plans, stand in proofs/.
 pub mod Bounds
 pub mod ByValue
 pub mod Capacity

@@ -1,4 +1,4 @@
--- What the test programs read and print by: what the functions return and leave, and what is proved about that.
+-- What the test programs read and print by: what the functions return and leave. What is proved about that stands in proofs/.
 -- Assumes nothing.
 pub mod Input
 pub mod Numbers

@@ -8,7 +8,7 @@ use lines::Wrote;
 pub const PAGE_BYTES: usize = 16384;
 
 // A page with its texts, and how far it is written.
-#[derive(Drop)]
+#[derive(Clone, Copy)]
 pub struct Page {
     pub bytes: [u8; PAGE_BYTES],
     pub next: Wrote,

@@ -1,4 +1,4 @@
--- RFC 4180: its bytes and grammar, where records end, the reading, the writer, and the laws that tie them together.
+-- RFC 4180: its bytes and grammar, where records end, the reading, the writer. The laws that tie them together stand in proofs/.
 -- Assumes nothing.
 pub mod Bytes
 pub mod Text

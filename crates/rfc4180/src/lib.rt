@@ -1,12 +1,12 @@
-// RFC 4180, the format of CSV files: its bytes, and the class of each. Grammar, reading and writer are definitions, in specs/ with their
-// laws; the code that reads and writes by them stands in csv_fields and lines.
+// RFC 4180, the format of CSV files: its bytes, and the class of each. Grammar, reading and writer are definitions, in specs/, and their laws
+// stand in proofs/; the code that reads and writes by them stands in csv_fields and lines.
 #![tactic(auto)]
 
 ghost use Rattle.std.specs.Prelude.{◌≡◌};
 ghost use Rattle.rfc4180.specs.Bytes.{class_of};
 
 // What a byte is in the grammar of RFC 4180: its terminals, and Refused for a byte that stands nowhere in a file.
-#[derive(Drop)]
+#[derive(Clone, Copy)]
 pub enum ByteClass {
     Text,
     Quote,

@@ -13,7 +13,7 @@ ghost use Rattle.search.specs.Promises.{Answers};
 use cycle::Tried;
 
 // What a search ends in, with its tries; or that it was not begun, because a number or a length is out of range.
-#[derive(Drop)]
+#[derive(Clone, Copy)]
 pub enum Ended {
     Found(u32),
     None(u32),
