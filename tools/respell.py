@@ -24,8 +24,8 @@ LIBRARY = set('add append cc cond cons div drop elim eq eqb false get get_or iff
 # lemmas whose names port.py made those of a definition in camel case
 APART = {'none_left': 'none_left_lem', 'quiet_line': 'quiet_line_lem'}
 
-# of one file, but a projection beside a word: neither hides the other
-BESIDE = {'deliveryNames', 'engineNames', 'onlyHere'}
+# of one file, but a field or a projection beside a word: neither hides the other (the sizes stand in the unfinished own use alone)
+BESIDE = {'deliveryNames', 'deliverySizes', 'engineNames', 'engineSizes', 'onlyHere'}
 
 
 def snake(word):

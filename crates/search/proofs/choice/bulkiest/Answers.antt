@@ -10,7 +10,8 @@ use Rattle.search.specs.Laws.Sets.{shifted}
 use Rattle.search.specs.Layout.{Kept}
 use Rattle.search.specs.Sets.{delivery_bits}
 use Rattle.search.proofs.choice.bulkiest.Goals as goal
-use Rattle.search.proofs.choice.bulkiest.Goals.{then-best-eq-NO_ROW, then-best-eq-NO_ROW-via-then-best-eq-NO_ROW, then-best-eq-NO_ROW-via-else-best-eq-NO_ROW+then-bulkier, else-best-eq-NO_ROW+else-bulkier}
+use Rattle.search.proofs.choice.bulkiest.Goals.{then-best-eq-NO_ROW, then-best-eq-NO_ROW-via-then-best-eq-NO_ROW}
+use Rattle.search.proofs.choice.bulkiest.Goals.{then-best-eq-NO_ROW-via-else-best-eq-NO_ROW+then-bulkier, else-best-eq-NO_ROW+else-bulkier}
 
 module _ {energy limit : List ℕ} {s : State} {set front : ℕ} (kept : Kept energy limit s) (fits : s.left < 2 ^ delivery_bits) (some : set ≢ 0) (ahead : Ahead s.left set front) where
   -- the next delivery left
