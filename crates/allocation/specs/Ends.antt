@@ -1,17 +1,31 @@
 -- What a search, the bisection and a plan's answer are as the code returns them, with the table that each leaves.
 -- Assumes nothing.
-use Rattle.std.specs.Prelude.{◌≡◌, List, ℕ}
+use Rattle.std.specs.Prelude.{◌≡◌, List, ℕ, ◌*◌, length}
 use Rattle.planning.specs.declared.Answer.{Answer}
 use Rattle.planning.specs.declared.Outcome.TheVariants.{Found}
+use Rattle.planning.specs.declared.Plan.{Plan as ByValue}
 use Rattle.planning.specs.Modes.{Planned, answer_of}
-use Rattle.planning.specs.Search.{Result}
+use Rattle.planning.specs.Search.{Result, found}
 use Rattle.search.specs.declared.Ended.{Ended}
 use Rattle.search.specs.Promises.{ended_of, written}
+
+-- a list as long as the plan's piece table
+abbrev pub IsTableOf : ByValue → List ℕ → Type 0
+IsTableOf plan table = length table ≡ plan.deliveries.count * plan.engines.count
 
 -- a search ends in that result; `left` is what the lent table then holds
 pub record Ends (result : Result) (lent : List ℕ) (r : Ended) (left : List ℕ) : Type 0 where
   pub ended : r ≡ ended_of result
   pub table : left ≡ written result lent
+
+-- it ends in found, with that table
+pub record Finds (came : Result) (r : Ended) (table : List ℕ) : Type 0 where
+  pub outcome : r.outcome ≡ Found
+  pub result : came ≡ found r.tries table
+
+-- how it ended, with its minutes
+abbrev pub answered : Ended → (minutes : ℕ) → Answer
+answered e minutes = record { outcome = e.outcome; minutes = minutes; tries = e.tries }
 
 -- that is answered, with the table of the search answered
 pub record Answers (a : Planned) (lent : List ℕ) (r : Answer) (left : List ℕ) : Type 0 where

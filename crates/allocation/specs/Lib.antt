@@ -2,3 +2,4 @@
 pub mod Ends
 pub mod Laws
 pub mod Running
+pub mod Usable

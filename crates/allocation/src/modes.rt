@@ -1,140 +1,103 @@
 // Fixed and shortest.
-ghost use Rattle.std.specs.Prelude.{◌≡◌, ◌*◌, ◌≤◌, length};
+ghost use Rattle.std.specs.Prelude.{◌≡◌, ◌≤◌};
 ghost use Rattle.planning.specs.Bounds.{most_minutes};
-ghost use Rattle.planning.specs.ByValue.{plan_in, Usable};
-ghost use Rattle.planning.specs.Modes.{search_at, bisect as bisected, shortest as shortest_of, planned, answer_of};
-ghost use Rattle.planning.specs.Search.{Result, found};
-ghost use Rattle.search.specs.Promises.{ended_of};
-ghost use Rattle.allocation.specs.Ends.{Ends, Answers, AnswersFound};
+ghost use Rattle.planning.specs.ByValue.{plan_in};
+ghost use Rattle.planning.specs.Modes.{search_at, bisect as bisected, shortest as shortest_of, planned};
+ghost use Rattle.allocation.specs.Ends.{IsTableOf, Ends, Finds, Answers, AnswersFound, answered};
 
+use crate::accepted::Accepted;
 use crate::capacity;
-use planning::{Answer, MOST_CELLS, Mode, Outcome, Plan, copy};
+use planning::{Answer, MOST_CELLS, Mode, Outcome};
 use search::{Ended, search};
 
-// The search for that many minutes.
-fn search_at(plan: Plan, minutes: u64, table: &mut [u64]) -> Ended
-    requires { Usable plan
-        × (minutes ≤ most_minutes)
-        × (length table.old ≡ plan.deliveries.count * plan.engines.count) }
-    ensures { Ends (search_at (plan_in plan) minutes) table.old result table.new }
-{
-    let engines = plan.engines;
-    let deliveries = plan.deliveries;
-    let count = engines.count;
-    let rows = deliveries.count;
-    let capacities = capacity::capacities(engines, minutes);
-    let energy = deliveries.energy;
-    let limit = deliveries.limit;
-    search(
-        &capacities[..count],
-        &energy[..rows],
-        &limit[..rows],
-        plan.allowance,
-        table,
-    )
-}
-
-// The answer of a search for that many minutes. A plan that passed the checks is never out of the search's range.
+// The answer of a search for that many minutes.
 fn answer_of(ended: Ended, minutes: u64) -> Answer
-    ensures { (came : Result) → ended ≡ ended_of came → result ≡ answer_of (record { minutes = minutes; result = came }) }
+    ensures { result ≡ answered ended minutes }
 {
-    match ended {
-        Ended::Found(t) => Answer {
-            outcome: Outcome::Found,
-            minutes,
-            tries: t as u64,
-        },
-        Ended::None(t) => Answer {
-            outcome: Outcome::None,
-            minutes,
-            tries: t as u64,
-        },
-        Ended::Stopped(t) => Answer {
-            outcome: Outcome::Stopped,
-            minutes,
-            tries: t as u64,
-        },
-        Ended::OutOfRange => Answer {
-            outcome: Outcome::Stopped,
-            minutes,
-            tries: 0,
-        },
+    Answer {
+        outcome: ended.outcome,
+        minutes,
+        tries: u64::from(ended.tries),
     }
 }
 
-// The bisection between 0 and the plan's minutes, whose search took those tries and left that table. Probes write the scratch table alone:
-// on found it holds the table of the time answered.
-fn bisect(plan: Plan, tries: u32, scratch: &mut [u64]) -> Answer
-    requires { Usable plan
-        × (length scratch.old ≡ plan.deliveries.count * plan.engines.count)
-        × (search_at (plan_in plan) plan.minutes ≡ found tries scratch.old) }
-    ensures { AnswersFound (bisected plan.minutes (plan_in plan) 0 plan.minutes) result scratch.new }
-{
-    let mut low: u64 = 0;
-    let mut high = plan.minutes;
-    let mut tries = tries;
-    while 1 < high - low {
-        let t = (low + high) / 2;
-        let ended = search_at(plan, t, &mut *scratch);
-        match ended {
-            Ended::Found(n) => {
-                high = t;
-                tries = n;
-            }
-            Ended::None(_) => {
-                low = t;
-            }
-            _ => {
-                return answer_of(ended, t);
-            }
+impl Accepted {
+    // The answer to a plan; found writes the table.
+    pub(crate) fn answer(&self, table: &mut [u64]) -> Answer
+        requires { IsTableOf self.now.plan table.old }
+        ensures { Answers (planned (plan_in self.now.plan)) table.old result table.new }
+    {
+        match self.plan.mode {
+            Mode::Fixed => answer_of(self.search_at(self.plan.minutes, table), self.plan.minutes),
+            Mode::Shortest => self.shortest(table),
         }
     }
-    answer_of(Ended::Found(tries), high)
-}
 
-// The shortest time. Probes write the scratch table, which is as long as the lent one, and found is copied.
-fn shortest_with(plan: Plan, scratch: &mut [u64], table: &mut [u64]) -> Answer
-    requires { Usable plan
-        × (length scratch.old ≡ plan.deliveries.count * plan.engines.count)
-        × (length table.old ≡ plan.deliveries.count * plan.engines.count) }
-    ensures { Answers (shortest_of (plan_in plan)) table.old result table.new }
-{
-    let minutes = plan.minutes;
-    let ended = search_at(plan, minutes, &mut *scratch);
-    match ended {
-        Ended::Found(tries) => {
-            let answer = bisect(plan, tries, &mut *scratch);
-            let outcome = answer.outcome;
-            if let Outcome::Found = outcome {
-                copy(&*scratch, table);
-            }
-            answer
-        }
-        _ => answer_of(ended, minutes),
+    fn shortest(&self, table: &mut [u64]) -> Answer
+        requires { IsTableOf self.now.plan table.old }
+        ensures { Answers (shortest_of (plan_in self.now.plan)) table.old result table.new }
+    {
+        let mut scratch = [0u64; MOST_CELLS];
+        self.shortest_with(&mut scratch[..table.len()], table)
     }
-}
 
-fn shortest(plan: Plan, table: &mut [u64]) -> Answer
-    requires { Usable plan × (length table.old ≡ plan.deliveries.count * plan.engines.count) }
-    ensures { Answers (shortest_of (plan_in plan)) table.old result table.new }
-{
-    let mut scratch = [0u64; MOST_CELLS];
-    let cells = table.len();
-    shortest_with(plan, &mut scratch[..cells], table)
-}
-
-// The answer to a plan; found writes the table.
-pub(crate) fn plan(plan: Plan, table: &mut [u64]) -> Answer
-    requires { Usable plan × (length table.old ≡ plan.deliveries.count * plan.engines.count) }
-    ensures { Answers (planned (plan_in plan)) table.old result table.new }
-{
-    let mode = plan.mode;
-    let minutes = plan.minutes;
-    match mode {
-        Mode::Fixed => {
-            let ended = search_at(plan, minutes, table);
-            answer_of(ended, minutes)
+    // The shortest time. Probes write the scratch table, which is as long as the lent one, and found is copied.
+    fn shortest_with(&self, scratch: &mut [u64], table: &mut [u64]) -> Answer
+        requires scratch { IsTableOf self.now.plan scratch.old }
+        requires table { IsTableOf self.now.plan table.old }
+        ensures { Answers (shortest_of (plan_in self.now.plan)) table.old result table.new }
+    {
+        let ended = self.search_at(self.plan.minutes, scratch);
+        if ended.outcome != Outcome::Found {
+            return answer_of(ended, self.plan.minutes);
         }
-        Mode::Shortest => shortest(plan, table),
+        let answer = self.bisect(ended, scratch);
+        if answer.outcome == Outcome::Found {
+            table.copy_from_slice(scratch);
+        }
+        answer
+    }
+
+    // The bisection between 0 and the plan's minutes, whose search found and left that table. Probes write the scratch table alone: on found it
+    // holds the table of the time answered.
+    fn bisect(&self, mut best: Ended, scratch: &mut [u64]) -> Answer
+        requires scratch { IsTableOf self.now.plan scratch.old }
+        requires found { Finds (search_at (plan_in self.now.plan) self.now.plan.minutes) best scratch.old }
+        ensures { AnswersFound (bisected self.now.plan.minutes (plan_in self.now.plan) 0 self.now.plan.minutes) result scratch.new }
+    {
+        let mut low = 0;
+        let mut high = self.plan.minutes;
+        while 1 < high - low {
+            let middle = (low + high) / 2;
+            let ended = self.search_at(middle, scratch);
+            match ended.outcome {
+                Outcome::Found => {
+                    high = middle;
+                    best = ended;
+                }
+                Outcome::None => low = middle,
+                Outcome::Stopped => return answer_of(ended, middle),
+            }
+        }
+        answer_of(best, high)
+    }
+
+    // The search for that many minutes. A plan that passed the checks is never out of the search's range.
+    fn search_at(&self, minutes: u64, table: &mut [u64]) -> Ended
+        requires minutes { minutes ≤ most_minutes }
+        requires table { IsTableOf self.now.plan table.old }
+        ensures { Ends (search_at (plan_in self.now.plan) minutes) table.old result table.new }
+    {
+        let engines = &self.plan.engines;
+        let deliveries = &self.plan.deliveries;
+        let capacities = capacity::capacities(engines, minutes);
+        search(
+            &capacities[..engines.count],
+            &deliveries.energy[..deliveries.count],
+            &deliveries.limit[..deliveries.count],
+            self.plan.allowance,
+            table,
+        )
+        .unwrap()
     }
 }

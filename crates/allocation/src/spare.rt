@@ -1,51 +1,43 @@
 // What each engine has to spare.
-ghost use Rattle.std.specs.Prelude.{◌≡◌, ◌*◌, ◌≤◌, ◌<◌, length};
-ghost use Rattle.planning.specs.Bounds.{most_engines, most_deliveries, most_minutes, most_fuel};
-ghost use Rattle.planning.specs.ByValue.{plan_in, Usable};
+ghost use Rattle.std.specs.Prelude.{◌≡◌, ◌≤◌, ◌<◌, length};
+ghost use Rattle.planning.specs.Bounds.{most_minutes, most_fuel};
+ghost use Rattle.planning.specs.ByValue.{plan_in};
 ghost use Rattle.planning.specs.Cutting.{Serves};
 ghost use Rattle.planning.specs.Modes.{spares};
-ghost use Rattle.planning.specs.Sum.{sum as sum_of};
 ghost use Rattle.planning.specs.Tables.{piece_in};
+ghost use Rattle.allocation.specs.Ends.{IsTableOf};
+ghost use Rattle.allocation.specs.Laws.Spares.{load_at};
 
+use crate::accepted::Accepted;
 use crate::capacity;
-use planning::{Plan, wide};
 
-// The sum of one engine's pieces, which is at most its capacity.
-fn load(table: &[u64], engines: usize, deliveries: usize, i: usize) -> u64
-    requires { (i < engines)
-        × (engines ≤ most_engines)
-        × (deliveries ≤ most_deliveries)
-        × (length table.now ≡ deliveries * engines)
-        × (sum_of deliveries (λ p. piece_in engines table.now p i) ≤ most_fuel) }
-    ensures { result ≡ sum_of deliveries (λ p. piece_in engines table.now p i) }
-{
-    let mut sum: u64 = 0;
-    let mut p = 0;
-    while p < deliveries {
-        sum += table[p * engines + i];
-        p += 1;
+impl Accepted {
+    // Each engine's capacity less its pieces in a table that serves the plan in those minutes.
+    pub(crate) fn write_spares(&self, minutes: u64, table: &[u64], spare: &mut [u64])
+        requires minutes { minutes ≤ most_minutes }
+        requires table { IsTableOf self.now.plan table.now }
+        requires serves { Serves 1 (plan_in self.now.plan) minutes (piece_in self.now.plan.engines.count table.now) }
+        requires spare { length spare.old ≡ self.now.plan.engines.count }
+        ensures { spare.new ≡ spares (plan_in self.now.plan) minutes table.now }
+    {
+        let capacities = capacity::capacities(&self.plan.engines, minutes);
+        for (i, left) in spare.iter_mut().enumerate() {
+            *left = u64::from(capacities[i]) - self.load(table, i);
+        }
     }
-    sum
-}
 
-// Each engine's capacity less its pieces in a table that serves the plan in those minutes.
-pub(crate) fn write<'a>(plan: Plan, minutes: u64, table: &'a [u64], spare: &mut [u64])
-    requires { Usable plan
-        × (minutes ≤ most_minutes)
-        × (length table.now ≡ plan.deliveries.count * plan.engines.count)
-        × Serves 1 (plan_in plan) minutes (piece_in plan.engines.count table.now)
-        × (length spare.old ≡ plan.engines.count) }
-    ensures { spare.new ≡ spares (plan_in plan) minutes table.now }
-{
-    let engines = plan.engines;
-    let deliveries = plan.deliveries;
-    let count = engines.count;
-    let rows = deliveries.count;
-    let capacities = capacity::capacities(engines, minutes);
-    let mut i = 0;
-    while i < count {
-        let drawn = load(table, count, rows, i);
-        spare[i] = wide(capacities[i]) - drawn;
-        i += 1;
+    // The sum of one engine's pieces, which is at most its capacity.
+    fn load(&self, table: &[u64], i: usize) -> u64
+        requires inside { i < self.now.plan.engines.count }
+        requires table { IsTableOf self.now.plan table.now }
+        requires most { load_at self.now.plan.engines.count self.now.plan.deliveries.count table.now i ≤ most_fuel }
+        ensures { result ≡ load_at self.now.plan.engines.count self.now.plan.deliveries.count table.now i }
+    {
+        // A loop: tried as a chain by `step_by`, whose sum is not proved to fit.
+        let mut sum = 0;
+        for p in 0..self.plan.deliveries.count {
+            sum += table[p * self.plan.engines.count + i];
+        }
+        sum
     }
 }

@@ -6,42 +6,55 @@
 // between numbers, and the last one ends its line.
 #![tactic(auto)]
 
-ghost use Rattle.std.specs.Prelude.{◌≤◌, ◌<◌, length, IfOk};
-
-use planning::{Allocation, Mode, Outcome};
-use report::{Page, Token, list_page, number, words_page, written};
-use std::io::{self, Read, Write};
-
-const LARGEST: u64 = 18446744073709551615;
+use planning::{Answer, Mode, PlanLists, Refusal};
+use report::{
+    Scanner, answer_page, list_page, mode_name, others, print, read_full, refusal_page, words_page,
+};
+use std::io::{self, Write};
 
 // What the lent lists hold before a call.
 const TABLE_PATTERN: u64 = 7;
 
 const SPARE_PATTERN: u64 = 8;
 
-// Writes a page.
-fn print<W: Write>(out: &mut W, page: Page) -> io::Result<()> {
-    let next = page.next;
-    let bytes = page.bytes;
-    out.write_all(written(&bytes, next))
+// Room for a list that is lent, and for numbers behind it.
+const ROOM: usize = 1024;
+
+// A list of which the front is lent to a call, filled with a pattern. An array and a count, since what stands behind the front is looked at.
+#[derive(Clone, Copy)]
+struct Lent {
+    numbers: [u64; ROOM],
+    lent: usize,
+    pattern: u64,
 }
 
-// Fills a list with numbers, and answers where they end.
-fn numbers(input: &[u8], from: usize, out: &mut [u64]) -> usize {
-    let mut at = from;
-    let mut i = 0;
-    while i < out.len() {
-        let token = number(input, at, LARGEST);
-        out[i] = token.value;
-        at = token.next;
-        i += 1;
+impl Lent {
+    fn new(lent: usize, pattern: u64) -> Lent {
+        Lent {
+            numbers: [pattern; ROOM],
+            lent: lent.min(ROOM),
+            pattern,
+        }
     }
-    at
+
+    fn front(&mut self) -> &mut [u64] {
+        let end = self.lent.min(ROOM);
+        &mut self.numbers[..end]
+    }
+
+    // Prints the front behind its name, and among words how many of the numbers behind it are not the pattern any more.
+    fn print<W: Write>(&self, to: &mut W, name: &[u8], words: &[u8]) -> io::Result<()> {
+        let (front, behind) = self.numbers.split_at(self.lent.min(ROOM));
+        print(to, list_page(name, front))?;
+        print(
+            to,
+            words_page(words, &[others(behind, self.pattern) as u64]),
+        )
+    }
 }
 
-// Where the lists of a plan end that stand in one list of its numbers, how much of the table and of the spare list is lent, and where the
-// numbers begin.
-#[derive(Clone, Copy, Drop)]
+// The lengths of a plan's lists, each no more than there is room for, and of what is lent to it.
+#[derive(Clone, Copy)]
 struct Lengths {
     watts: usize,
     fuels: usize,
@@ -50,202 +63,67 @@ struct Lengths {
     quiet: usize,
     table: usize,
     spare: usize,
-    next: usize,
 }
 
-// A length, no more than there is room for.
-fn length_at(input: &[u8], from: usize, most: u64) -> Token
-    ensures { result.value ≤ most }
-{
-    number(input, from, most)
-}
-
-// The lengths that begin at a place.
-fn lengths_at(input: &[u8], from: usize) -> Lengths
-    ensures { (result.quiet ≤ 512) × (result.table ≤ 1024) × (result.spare ≤ 1024) }
-{
-    let watts = length_at(input, from, 16);
-    let fuels = length_at(input, watts.next, 16);
-    let energies = length_at(input, fuels.next, 80);
-    let limits = length_at(input, energies.next, 80);
-    let quiet = length_at(input, limits.next, 320);
-    let table = length_at(input, quiet.next, 1000);
-    let spare = length_at(input, table.next, 20);
-    let fuels_end = watts.value + fuels.value;
-    let energies_end = fuels_end + energies.value;
-    let limits_end = energies_end + limits.value;
+fn read_lengths(numbers: &mut Scanner) -> Lengths {
     Lengths {
-        watts: watts.value as usize,
-        fuels: fuels_end as usize,
-        energies: energies_end as usize,
-        limits: limits_end as usize,
-        quiet: (limits_end + quiet.value) as usize,
-        table: table.value as usize,
-        spare: spare.value as usize,
-        next: spare.next,
+        watts: numbers.number(16) as usize,
+        fuels: numbers.number(16) as usize,
+        energies: numbers.number(80) as usize,
+        limits: numbers.number(80) as usize,
+        quiet: numbers.number(320) as usize,
+        table: numbers.number(1000) as usize,
+        spare: numbers.number(20) as usize,
     }
 }
 
-// Prints the mode and its numbers.
-fn print_mode<W: Write>(out: &mut W, mode: Mode, minutes: u64, allowance: u64) -> io::Result<()> {
-    match mode {
-        Mode::Fixed => print(out, words_page(b": fixed # #", &[minutes, allowance])),
-        Mode::Shortest => print(out, words_page(b": shortest # #", &[minutes, allowance])),
+// The front of a list, filled with the next numbers.
+fn read_list<'a>(numbers: &mut Scanner, length: usize, list: &'a mut [u64]) -> &'a [u64] {
+    let end = length.min(list.len());
+    let front = &mut list[..end];
+    for number in front.iter_mut() {
+        *number = numbers.number(u64::MAX);
     }
+    front
+}
+
+// Prints the lists that a call is made with, and how much is lent to it.
+fn print_call<W: Write>(to: &mut W, plan: PlanLists, lengths: Lengths) -> io::Result<()> {
+    to.write_all(b": ")?;
+    to.write_all(mode_name(plan.mode))?;
+    print(to, words_page(b" # #", &[plan.minutes, plan.allowance]))?;
+    print(to, list_page(b", watts", plan.watts))?;
+    print(to, list_page(b", fuels", plan.fuels))?;
+    print(to, list_page(b", energies", plan.energies))?;
+    print(to, list_page(b", limits", plan.limits))?;
+    print(to, list_page(b", quiet", plan.quiet))?;
+    print(
+        to,
+        words_page(
+            b", lent # and #\n",
+            &[lengths.table as u64, lengths.spare as u64],
+        ),
+    )
 }
 
 // Prints what the allocation returned.
-fn print_answer<W: Write>(out: &mut W, allocation: Allocation) -> io::Result<()> {
-    match allocation {
-        Allocation::Refused(refusal) => {
-            let fault = refusal.fault;
-            print(
-                out,
-                words_page(
-                    b"  refused # #",
-                    &[planning::number_of(fault), refusal.place],
-                ),
-            )
-        }
-        Allocation::Answered(answer) => {
-            let numbers = [answer.minutes, answer.tries];
-            let outcome = answer.outcome;
-            match outcome {
-                Outcome::Found => print(out, words_page(b"  found # #", &numbers)),
-                Outcome::None => print(out, words_page(b"  none # #", &numbers)),
-                Outcome::Stopped => print(out, words_page(b"  stopped # #", &numbers)),
-            }
-        }
+fn print_answer<W: Write>(to: &mut W, answer: Result<Answer, Refusal>) -> io::Result<()> {
+    to.write_all(b"  ")?;
+    match answer {
+        Ok(answer) => print(to, answer_page(answer)),
+        Err(refusal) => print(to, refusal_page(refusal)),
     }
 }
 
-// Prints the lent front of a list behind its name, and among words how many of the numbers behind it are not the pattern any more.
-fn print_lent<'a, W: Write>(
-    out: &mut W,
-    name: &'a [u8],
-    list: &'a [u64; 1024],
-    lent: usize,
-    words: &'a [u8],
-    pattern: u64,
-) -> io::Result<()> {
-    let whole: &[u64] = list;
-    if whole.len() < lent {
-        return Ok(());
-    }
-    print(out, list_page(name, &whole[0..lent]))?;
-    let changed = report::others(&whole[lent..], pattern) as u64;
-    print(out, words_page(words, &[changed]))
-}
-
-// The numbers of a list from a place to another; none where they do not stand in it.
-fn part(list: &[u64], from: usize, end: usize) -> &[u64] {
-    if end < from {
-        return &list[0..0];
-    }
-    if list.len() < end {
-        return &list[0..0];
-    }
-    &list[from..end]
-}
-
-// Prints the five lists that a call is made with, which stand one behind the other, and how much is lent to it.
-fn print_lists<W: Write>(out: &mut W, lists: &[u64; 512], n: Lengths) -> io::Result<()> {
-    let whole: &[u64] = lists;
-    print(out, list_page(b", watts", part(whole, 0, n.watts)))?;
-    print(out, list_page(b", fuels", part(whole, n.watts, n.fuels)))?;
-    print(
-        out,
-        list_page(b", energies", part(whole, n.fuels, n.energies)),
-    )?;
-    print(
-        out,
-        list_page(b", limits", part(whole, n.energies, n.limits)),
-    )?;
-    print(out, list_page(b", quiet", part(whole, n.limits, n.quiet)))?;
-    print(
-        out,
-        words_page(b", lent # and #\n", &[n.table as u64, n.spare as u64]),
-    )
-}
-
-// Runs the plan of these lists with the front of a table and of a spare list lent, and prints the answer and what is left in them.
-fn run_lists<W: Write>(
-    out: &mut W,
-    mode: Mode,
-    minutes: u64,
-    allowance: u64,
-    lists: &[u64; 512],
-    n: Lengths,
-) -> io::Result<()>
-    requires { (n.table ≤ 1024) × (n.spare ≤ 1024) }
-{
-    let whole: &[u64] = lists;
-    let table_len = n.table;
-    let spare_len = n.spare;
-    let mut table = [TABLE_PATTERN; 1024];
-    let mut spare = [SPARE_PATTERN; 1024];
-    let allocation = allocation::allocate(
-        mode,
-        minutes,
-        allowance,
-        part(whole, 0, n.watts),
-        part(whole, n.watts, n.fuels),
-        part(whole, n.fuels, n.energies),
-        part(whole, n.energies, n.limits),
-        part(whole, n.limits, n.quiet),
-        &mut table[0..table_len],
-        &mut spare[0..spare_len],
-    );
-    print_answer(out, allocation)?;
-    print_lent(
-        out,
-        b", table",
-        &table,
-        table_len,
-        b", behind it changed #",
-        TABLE_PATTERN,
-    )?;
-    print_lent(
-        out,
-        b", spare",
-        &spare,
-        spare_len,
-        b", behind it changed #\n",
-        SPARE_PATTERN,
-    )
-}
-
-// Runs the plan whose lengths begin at a place, and answers where it ends.
-fn run<W: Write>(
-    out: &mut W,
-    input: &[u8],
-    from: usize,
-    mode: Mode,
-    minutes: u64,
-    allowance: u64,
-) -> io::Result<usize> {
-    let n = lengths_at(input, from);
-    let quiet = n.quiet;
-    let mut lists = [0; 512];
-    let after = numbers(input, n.next, &mut lists[0..quiet]);
-    print_lists(out, &lists, n)?;
-    run_lists(out, mode, minutes, allowance, &lists, n)?;
-    Ok(after)
-}
-
-// Where the line that begins at a place ends.
-fn line_end(input: &[u8], from: usize) -> usize
-    requires { from ≤ length input.now }
-    ensures { (from ≤ result) × (result ≤ length input.now) }
-{
-    let mut at = from;
-    while at < input.len() {
-        if input[at] == b'\n' {
-            return at;
-        }
-        at += 1;
-    }
-    at
+// Runs a plan with the front of a table and of a spare list lent, and prints the call, the answer and what is left in them.
+fn run<W: Write>(to: &mut W, plan: PlanLists, lengths: Lengths) -> io::Result<()> {
+    print_call(to, plan, lengths)?;
+    let mut table = Lent::new(lengths.table, TABLE_PATTERN);
+    let mut spare = Lent::new(lengths.spare, SPARE_PATTERN);
+    let answer = allocation::allocate(plan, table.front(), spare.front());
+    print_answer(to, answer)?;
+    table.print(to, b", table", b", behind it changed #")?;
+    spare.print(to, b", spare", b", behind it changed #\n")
 }
 
 // The mode that a number stands for.
@@ -253,64 +131,49 @@ fn mode_of(n: u64) -> Mode {
     if n == 0 { Mode::Fixed } else { Mode::Shortest }
 }
 
-// Runs the plan whose numbers begin at a place, and answers where it ends.
-fn run_plan<W: Write>(out: &mut W, input: &[u8], from: usize) -> io::Result<usize> {
-    let mode = number(input, from, 1);
-    let minutes = number(input, mode.next, LARGEST);
-    let allowance = number(input, minutes.next, LARGEST);
-    let chosen = mode_of(mode.value);
-    print_mode(out, chosen, minutes.value, allowance.value)?;
-    run(
-        out,
-        input,
-        allowance.next,
-        chosen,
-        minutes.value,
-        allowance.value,
-    )
+// Reads the plan whose numbers come next, and runs it.
+fn run_plan<W: Write>(to: &mut W, numbers: &mut Scanner) -> io::Result<()> {
+    let mode = mode_of(numbers.number(1));
+    let minutes = numbers.number(u64::MAX);
+    let allowance = numbers.number(u64::MAX);
+    let lengths = read_lengths(numbers);
+    let mut watts = [0; 16];
+    let mut fuels = [0; 16];
+    let mut energies = [0; 80];
+    let mut limits = [0; 80];
+    let mut quiet = [0; 320];
+    let plan = PlanLists {
+        mode,
+        minutes,
+        allowance,
+        watts: read_list(numbers, lengths.watts, &mut watts),
+        fuels: read_list(numbers, lengths.fuels, &mut fuels),
+        energies: read_list(numbers, lengths.energies, &mut energies),
+        limits: read_list(numbers, lengths.limits, &mut limits),
+        quiet: read_list(numbers, lengths.quiet, &mut quiet),
+    };
+    run(to, plan, lengths)
 }
 
-// The place behind a plan that begins at a place and ends at another; the end of the input where it would be none behind it.
-fn behind(at: usize, end: usize, size: usize) -> usize
-    requires { at < size }
-    ensures { (at < result) × (result ≤ size) }
-{
-    if end <= at {
-        size
-    } else if size <= end {
-        size
-    } else {
-        end + 1
-    }
-}
-
-// Runs the plans of the input, each behind its title.
-fn run_all<W: Write>(out: &mut W, input: &[u8]) -> io::Result<()> {
-    let mut at = 0;
-    while at < input.len() {
-        let end = line_end(input, at);
-        out.write_all(&input[at..end])?;
-        at = behind(at, run_plan(out, input, end)?, input.len());
+// Runs the plans of the input, each behind its title; what ends a plan's last number ends its line.
+fn run_all<W: Write>(to: &mut W, input: &[u8]) -> io::Result<()> {
+    let mut rest = input;
+    while !rest.is_empty() {
+        let end = rest.iter().position(|b| *b == b'\n').unwrap_or(rest.len());
+        let (title, behind) = rest.split_at(end);
+        to.write_all(title)?;
+        let mut numbers = Scanner {
+            input: behind,
+            at: 0,
+        };
+        run_plan(to, &mut numbers)?;
+        rest = behind.get(numbers.at.saturating_add(1)..).unwrap_or(&[]);
     }
     Ok(())
 }
 
-// Reads to the end of the input, or until the buffer is full, and answers how many bytes it put there.
-fn read_full<R: Read>(from: &mut R, buffer: &mut [u8]) -> io::Result<usize>
-    ensures { IfOk result (λ n. n ≤ length buffer.new) }
-{
-    let mut filled = 0;
-    for _ in 0..u64::MAX {
-        let got = from.read(&mut buffer[filled..])?;
-        if got == 0 {
-            break;
-        }
-        filled += got;
-    }
-    Ok(filled)
-}
-
 fn main(rt: HostRuntime) -> io::Result<()> {
+    // of a fixed length, since nothing is allocated here
     let mut input = [0u8; 65536];
     let n = read_full(&mut rt.stdin(), &mut input)?;
     run_all(&mut rt.stdout(), &input[..n])

@@ -1,29 +1,21 @@
--- What the checks of a call on numbers come to: the verdict, and the plan by value.
+-- What the checks of a call on numbers come to: the plan by value, or the refusal.
 -- Assumes nothing.
-use Rattle.std.specs.Prelude.{List, [], ℕ, replicate}
+use Rattle.std.specs.Prelude.{ℕ, replicate, Result, Ok, Err}
 use Rattle.std.proofs.Math.Option.{Option, none, some}
-use Rattle.planning.specs.declared.Mode.{Mode}
-use Rattle.planning.specs.declared.Mode.TheVariants.{Fixed}
 use Rattle.planning.specs.declared.Plan.{Plan as ByValue}
+use Rattle.planning.specs.declared.PlanLists.{PlanLists}
 use Rattle.planning.specs.declared.Refusal.{Refusal}
 use Rattle.planning.specs.ByValue.{by_value}
-use Rattle.planning.specs.Numbers.{Call, call_on, refusal_of}
-use Rattle.planning.specs.Refusals.{verdict_of}
-use Rattle.checks.specs.declared.Checked.{Checked}
+use Rattle.planning.specs.Numbers.{Call, call_of, refusal_of}
 
 -- a call that is lent a table and a spare list of those lengths; what they hold is no matter of the checks
-abbrev pub call_lent : Mode → (minutes allowance : ℕ) → (watts fuels energies limits quiet : List ℕ) → (table spare : ℕ) → Call
-call_lent mode minutes allowance watts fuels energies limits quiet table spare =
-    call_on mode minutes allowance watts fuels energies limits quiet (replicate table 0) (replicate spare 0)
-
--- the plan by value that stands beside a refusal: no engine, no quiet span, no delivery, and 0 everywhere
-unfoldable pub no_plan : ByValue
-no_plan = by_value (call_lent Fixed 0 0 [] [] [] [] [] 0 0)
+abbrev pub call_lent : PlanLists → (table spare : ℕ) → Call
+call_lent lists table spare = call_of lists (replicate table 0) (replicate spare 0)
 
 -- the plan by value of a call that is accepted
-unfoldable pub plan_unless : Option Refusal → Call → ByValue
-plan_unless none call = by_value call
-plan_unless (some refusal) call = no_plan
+unfoldable pub plan_unless : Option Refusal → Call → Result ByValue Refusal
+plan_unless none call = Ok (by_value call)
+plan_unless (some refusal) call = Err refusal
 
-unfoldable pub checked_of : Call → Checked
-checked_of call = record { verdict = verdict_of (refusal_of call); plan = plan_unless (refusal_of call) call }
+unfoldable pub checked_of : Call → Result ByValue Refusal
+checked_of call = plan_unless (refusal_of call) call

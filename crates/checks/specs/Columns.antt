@@ -1,8 +1,8 @@
--- The columns of a list of three numbers each.
+-- The lists of a call that fit what they are stored in.
 -- Assumes nothing.
-use Rattle.std.specs.Prelude.{List, ℕ, ◌+◌, ◌*◌, ◌/◌, length}
-use Rattle.planning.specs.Tables.{at, listed}
+use Rattle.std.specs.Prelude.{List, ℕ, ◌^◌, ◌≤◌, ◌<◌, length}
+use Rattle.planning.specs.Tables.{at}
 
--- of each three the number that stands at that start
-unfoldable pub every_third : (start : ℕ) → List ℕ → List ℕ
-every_third start xs = listed (length xs / 3) (λ k. at xs (3 * k + start))
+-- a list that is no longer than that, of numbers that a word of so many bits holds
+abbrev pub Fits : (most bits : ℕ) → List ℕ → Type 0
+Fits most bits xs = (length xs ≤ most) × ((i : ℕ) → i < length xs → at xs i < 2 ^ bits)

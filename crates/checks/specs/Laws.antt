@@ -3,3 +3,4 @@ pub mod Checked
 pub mod Columns
 pub mod Parts
 pub mod Quiet
+pub mod Verdicts

@@ -3,37 +3,32 @@ ghost use Rattle.std.specs.Prelude.{◌≡◌, []};
 ghost use Rattle.planning.specs.Numbers.{quiet_of, quiet_fault, check_quiet};
 ghost use Rattle.planning.specs.Refusals.{verdict_of};
 
-use crate::refusals::fault;
-use planning::{Fault, MOST_MINUTES, Verdict, span_fits};
+use crate::refusals::{is_within, refused};
+use planning::{Fault, MOST_MINUTES, Refusal, span_fits};
 
 // Three numbers each; of so many engines.
-pub(crate) fn spans(quiet: &[u64], engines: u64) -> Verdict
+pub(crate) fn spans(quiet: &[u64], engines: u64) -> Result<(), Refusal>
     ensures { result ≡ verdict_of (check_quiet engines [] (quiet_of quiet.now)) }
 {
-    let mut i = 0;
-    while 2 < quiet.len() - i {
-        let verdict = span(&quiet[..i], quiet[i], quiet[i + 1], quiet[i + 2], engines);
-        if let Verdict::Refused(_) = verdict {
-            return verdict;
-        }
-        i += 3;
+    let (threes, _) = quiet.as_chunks::<3>();
+    for (k, [engine, from, to]) in threes.iter().enumerate() {
+        span(&quiet[..3 * k], *engine, *from, *to, engines)?;
     }
-    Verdict::Accepted
+    Ok(())
 }
 
 // A span of that engine behind earlier ones.
-fn span(earlier: &[u64], engine: u64, from: u64, to: u64, engines: u64) -> Verdict
+fn span(earlier: &[u64], engine: u64, from: u64, to: u64, engines: u64) -> Result<(), Refusal>
     ensures { result ≡ verdict_of (quiet_fault engines (quiet_of earlier.now) (record { engine = engine; span = record { from = from; to = to } })) }
 {
-    if MOST_MINUTES < from || MOST_MINUTES < to {
-        return fault(Fault::Value, 0);
+    if !is_within(0, MOST_MINUTES, from) || !is_within(0, MOST_MINUTES, to) {
+        return Err(refused(Fault::Value, 0));
     }
-    if engine == 0 || engines < engine {
-        return fault(Fault::UnknownEngine, 0);
+    if !is_within(1, engines, engine) {
+        return Err(refused(Fault::UnknownEngine, 0));
     }
-    if span_fits(earlier, engine, from, to) {
-        Verdict::Accepted
-    } else {
-        fault(Fault::QuietSpan, 0)
+    if !span_fits(earlier, engine, from, to) {
+        return Err(refused(Fault::QuietSpan, 0));
     }
+    Ok(())
 }

@@ -1,16 +1,15 @@
 -- What the public functions promise, in terms of RFC 4180's grammar. Each promise opens with the definition that the result equals, for all
 -- input; the other clauses say what that means.
 -- Assumes nothing.
-use Rattle.std.specs.Prelude.{◌≡◌, ◌↔◌, Bool, true, false, List, [], ◌∷◌, ◌++◌, ℕ, ◌+◌, ◌≤◌, ◌<◌, length, drop}
-use Rattle.csv_fields.specs.declared.FieldForm.{FieldForm}
-use Rattle.csv_fields.specs.declared.FieldForm.TheVariants as form
+use Rattle.std.specs.Prelude.{◌≡◌, ◌↔◌, Bool, true, false, List, [], ◌∷◌, ◌++◌, ℕ, ◌+◌, ◌≤◌, ◌<◌, length, drop, Some, None, IsSome, Ok, Err}
+use Rattle.csv_fields.specs.declared.FieldForm.TheVariants.{Part, Doubled}
 use Rattle.csv_fields.specs.declared.FieldRead.{FieldRead}
 use Rattle.csv_fields.specs.declared.FieldSpan.{FieldSpan}
 use Rattle.csv_fields.specs.declared.RecordSpan.{RecordSpan}
-use Rattle.csv_fields.specs.declared.Undone.{Undone}
-use Rattle.csv_fields.specs.declared.Undone.TheVariants as undoing
+use Rattle.csv_fields.specs.declared.UndoError.TheVariants.{TooLong, Broken}
 use Rattle.rfc4180.specs.Bytes.{quote, comma, carriage_return, line_feed}
 use Rattle.rfc4180.specs.Grammar.{Field, Record}
+use Rattle.csv_fields.specs.Results.{Reading, Form, Undone}
 use Rattle.csv_fields.specs.Spans.{record_span, field_span, field_read, sound_field, broken_field, holds_quote, inside_of, form_of, undone, undone_on_exit}
 
 -- what may stand behind a field in a file, how many bytes separate it from what follows, and whether that is a further field of its record:
@@ -38,17 +37,17 @@ DoubledQuote raw = (front : List ℕ) × (back : List ℕ) × (inside_of raw ≡
 -- `field_read` finds a field exactly where one stands, and tells where it ends, where what follows begins, whether that is a further field,
 -- and whether it holds a doubled quote. Only that stands for a quote, so its value has one exactly then. A field that begins in the file ends
 -- in it, and what follows begins behind it.
-pub record ReadsField (file : List ℕ) (from : ℕ) (r : FieldRead) : Type 0 where
+pub record ReadsField (file : List ℕ) (from : ℕ) (r : Reading) : Type 0 where
   pub equals : r ≡ field_read file from
-  pub sound : (r.sound ≡ true) ↔ FieldAt file from
+  pub sound : IsSome r ↔ FieldAt file from
   pub told : (f : FieldAt file from)
       → r ≡ sound_field (from + length f.raw) (from + length f.raw + f.size) f.more (holds_quote f.value)
-  pub doubled : (f : FieldAt file from) → (r.doubled ≡ true) ↔ DoubledQuote f.raw
-  pub broken : r.sound ≡ false → r ≡ broken_field
-  pub within : from ≤ length file → r.sound ≡ true
-      → (from ≤ r.end) × (r.end ≤ r.next) × (r.next ≤ length file)
-      × (r.more ≡ true → r.end < r.next)
-      × (from < length file → from < r.next)
+  pub doubled : (f : FieldAt file from) → (read : FieldRead) → r ≡ Some read → (read.doubled ≡ true) ↔ DoubledQuote f.raw
+  pub broken : (r ≡ broken_field) ↔ (FieldAt file from → ⊥)
+  pub within : from ≤ length file → (read : FieldRead) → r ≡ Some read
+      → (from ≤ read.end) × (read.end ≤ read.next) × (read.next ≤ length file)
+      × (read.more ≡ true → read.end < read.next)
+      × (from < length file → from < read.next)
 
 -- `record_at`: a record of the grammar is found up to the CR LF behind it, or up to the end of the file. Any record that begins in the file
 -- ends in it, and the next one begins behind it.
@@ -71,12 +70,12 @@ pub record EndsField (text : List ℕ) (from : ℕ) (r : FieldSpan) : Type 0 whe
   pub with_text : {raw value : List ℕ} → Field raw value → drop from text ≡ raw → r ≡ record { end = from + length raw; more = false }
   pub within : from ≤ length text → (from ≤ r.end) × (r.end ≤ length text) × (r.more ≡ true → r.end < length text)
 
--- `form_of`: broken exactly where no value is that of a field, and else by whether the field holds a doubled quote
-pub record HasForm (raw : List ℕ) (r : FieldForm) : Type 0 where
+-- `form_of`: none exactly where no value is that of a field, and else by whether the field holds a doubled quote
+pub record HasForm (raw : List ℕ) (r : Form) : Type 0 where
   pub equals : r ≡ form_of raw
-  pub broken : (r ≡ form.Broken) ↔ ((value : List ℕ) → Field raw value → ⊥)
-  pub part : (r ≡ form.Part) ↔ ((value : List ℕ) × Field raw value × (holds_quote value ≡ false))
-  pub doubled : (r ≡ form.Doubled) ↔ ((value : List ℕ) × Field raw value × (holds_quote value ≡ true))
+  pub broken : (r ≡ None) ↔ ((value : List ℕ) → Field raw value → ⊥)
+  pub part : (r ≡ Some Part) ↔ ((value : List ℕ) × Field raw value × (holds_quote value ≡ false))
+  pub doubled : (r ≡ Some Doubled) ↔ ((value : List ℕ) × Field raw value × (holds_quote value ≡ true))
 
 -- `part_of`: a part of the raw field whatever it is, and the value of every field that holds no doubled quote
 pub record HandsPart (raw part : List ℕ) : Type 0 where
@@ -88,7 +87,7 @@ pub record Undoes (raw lent : List ℕ) (r : Undone) (left : List ℕ) : Type 0 
   pub equals : r ≡ undone raw (length lent)
   pub leaves : left ≡ undone_on_exit raw lent
   pub fits : {value : List ℕ} → Field raw value → length value ≤ length lent
-      → (r ≡ undoing.Length (length value)) × (left ≡ value ++ drop (length value) lent)
-  pub too_long : {value : List ℕ} → Field raw value → length lent < length value → (r ≡ undoing.TooLong) × (left ≡ lent)
-  pub broken : ((value : List ℕ) → Field raw value → ⊥) → (r ≡ undoing.Broken) × (left ≡ lent)
-  pub within : (n : ℕ) → r ≡ undoing.Length n → n ≤ length lent
+      → (r ≡ Ok (length value)) × (left ≡ value ++ drop (length value) lent)
+  pub too_long : {value : List ℕ} → Field raw value → length lent < length value → (r ≡ Err TooLong) × (left ≡ lent)
+  pub broken : ((value : List ℕ) → Field raw value → ⊥) → (r ≡ Err Broken) × (left ≡ lent)
+  pub within : (n : ℕ) → r ≡ Ok n → n ≤ length lent

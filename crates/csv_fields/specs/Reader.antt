@@ -3,8 +3,8 @@
 use Rattle.std.specs.Prelude.{Bool, true, false, List, [], ◌∷◌, ℕ, ◌+◌, eqb}
 use Rattle.rfc4180.specs.declared.ByteClass.{ByteClass}
 use Rattle.rfc4180.specs.declared.ByteClass.TheVariants.{Text, Quote, Comma, CarriageReturn, LineFeed, Refused}
-use Rattle.csv_fields.specs.declared.FieldRead.{FieldRead}
 use Rattle.rfc4180.specs.Bytes.{quote, line_feed, class_of}
+use Rattle.csv_fields.specs.Results.{Reading}
 use Rattle.csv_fields.specs.Spans.{before_comma, before_record_end, with_file, broken_field}
 
 -- whether some bytes begin with a byte
@@ -13,7 +13,7 @@ begins_with b [] = false
 begins_with b (x ∷ rest) = eqb x b
 
 -- the byte at which a field may end: before a comma and before CR LF it does, and every other byte but text breaks it
-unfoldable pub end_by : ByteClass → (line_feed_next : Bool) → (at : ℕ) → (doubled : Bool) → (text : FieldRead) → FieldRead
+unfoldable pub end_by : ByteClass → (line_feed_next : Bool) → (at : ℕ) → (doubled : Bool) → (text : Reading) → Reading
 end_by Text line_feed_next at doubled text = text
 end_by Quote line_feed_next at doubled text = broken_field
 end_by Comma line_feed_next at doubled text = before_comma at doubled
@@ -23,19 +23,19 @@ end_by LineFeed line_feed_next at doubled text = broken_field
 end_by Refused line_feed_next at doubled text = broken_field
 
 -- a quoted field, by the bytes behind its closing quote: no text may follow
-unfoldable pub end_read : (at : ℕ) → (doubled : Bool) → List ℕ → FieldRead
+unfoldable pub end_read : (at : ℕ) → (doubled : Bool) → List ℕ → Reading
 unfolding class_of begins_with end_by
 end_read at doubled [] = with_file at doubled
 end_read at doubled (b ∷ rest) = end_by (class_of b) (begins_with line_feed rest) at doubled broken_field
 
 -- a field that is not quoted: text goes on
-unfoldable pub plain_read : (at : ℕ) → List ℕ → FieldRead
+unfoldable pub plain_read : (at : ℕ) → List ℕ → Reading
 unfolding class_of begins_with end_by
 plain_read at [] = with_file at false
 plain_read at (b ∷ rest) = end_by (class_of b) (begins_with line_feed rest) at false (plain_read (at + 1) rest)
 
 -- a byte inside quotes: the field goes on, also behind a doubled quote, or is closed
-unfoldable pub inside_read : ByteClass → (quote_next : Bool) → (on pair closed : FieldRead) → FieldRead
+unfoldable pub inside_read : ByteClass → (quote_next : Bool) → (on pair closed : Reading) → Reading
 inside_read Text quote_next on pair closed = on
 inside_read Quote true on pair closed = pair
 inside_read Quote false on pair closed = closed
@@ -45,7 +45,7 @@ inside_read LineFeed quote_next on pair closed = on
 inside_read Refused quote_next on pair closed = broken_field
 
 -- a quoted field, from the place behind its opening quote on, where a doubled quote has been met or not
-unfoldable pub quoted_read : (doubled : Bool) → (at : ℕ) → List ℕ → FieldRead
+unfoldable pub quoted_read : (doubled : Bool) → (at : ℕ) → List ℕ → Reading
 unfolding inside_read class_of end_read
 quoted_read doubled at [] = broken_field
 quoted_read doubled at (b ∷ []) = inside_read (class_of b) false broken_field broken_field (end_read (at + 1) doubled [])

@@ -1,17 +1,16 @@
 -- What the functions on slices return and leave, in terms of RFC 4180's reading.
 -- Assumes nothing.
-use Rattle.std.specs.Prelude.{Bool, true, false, cond, ◌||◌, ◌&&◌, List, [], ◌∷◌, ◌++◌, ℕ, ◌+◌, ◌-◌, leb, eqb, length, take, drop, get_or}
+use Rattle.std.specs.Prelude.{Bool, true, false, cond, ◌||◌, ◌&&◌, List, [], ◌∷◌, ◌++◌, ℕ, ◌+◌, ◌-◌, leb, eqb, length, take, drop, get_or, Some, None, Ok, Err}
 use Rattle.std.proofs.Math.Option.{Option, none, some, map}
-use Rattle.csv_fields.specs.declared.FieldForm.{FieldForm}
-use Rattle.csv_fields.specs.declared.FieldForm.TheVariants as form
+use Rattle.csv_fields.specs.declared.FieldForm.TheVariants.{Part, Doubled}
 use Rattle.csv_fields.specs.declared.FieldRead.{FieldRead}
 use Rattle.csv_fields.specs.declared.FieldSpan.{FieldSpan}
 use Rattle.csv_fields.specs.declared.RecordSpan.{RecordSpan}
-use Rattle.csv_fields.specs.declared.Undone.{Undone}
-use Rattle.csv_fields.specs.declared.Undone.TheVariants as undoing
+use Rattle.csv_fields.specs.declared.UndoError.TheVariants.{TooLong, Broken}
 use Rattle.rfc4180.specs.Bytes.{quote}
 use Rattle.rfc4180.specs.Fields.{raw_fields, field_value}
 use Rattle.rfc4180.specs.Records.{first_record}
+use Rattle.csv_fields.specs.Results.{Reading, Form, Undone}
 
 -- the record that begins at a place of a file: its text ends where the first record of the bytes from there on does
 unfoldable pub span_from : (from : ℕ) → (text_length : ℕ) → (behind : Option (List ℕ)) → RecordSpan
@@ -31,21 +30,24 @@ unfoldable pub field_span : (text : List ℕ) → (from : ℕ) → FieldSpan
 field_span text from = field_from from (raw_fields (drop from text))
 
 -- a field of the grammar that was read where it begins: it ends before a comma, before a record end, or with the file
-abbrev pub sound_field : (end next : ℕ) → (more doubled : Bool) → FieldRead
-sound_field end next more doubled = record { sound = true; end = end; next = next; more = more; doubled = doubled }
+abbrev pub told_field : (end next : ℕ) → (more doubled : Bool) → FieldRead
+told_field end next more doubled = record { end = end; next = next; more = more; doubled = doubled }
 
-abbrev pub before_comma : (end : ℕ) → (doubled : Bool) → FieldRead
+abbrev pub sound_field : (end next : ℕ) → (more doubled : Bool) → Reading
+sound_field end next more doubled = Some (told_field end next more doubled)
+
+abbrev pub before_comma : (end : ℕ) → (doubled : Bool) → Reading
 before_comma end doubled = sound_field end (end + 1) true doubled
 
-abbrev pub before_record_end : (end : ℕ) → (doubled : Bool) → FieldRead
+abbrev pub before_record_end : (end : ℕ) → (doubled : Bool) → Reading
 before_record_end end doubled = sound_field end (end + 2) false doubled
 
-abbrev pub with_file : (end : ℕ) → (doubled : Bool) → FieldRead
+abbrev pub with_file : (end : ℕ) → (doubled : Bool) → Reading
 with_file end doubled = sound_field end end false doubled
 
 -- no field of the grammar
-abbrev pub broken_field : FieldRead
-broken_field = record { sound = false; end = 0; next = 0; more = false; doubled = false }
+abbrev pub broken_field : Reading
+broken_field = None
 
 -- whether a quote stands among some bytes
 unfoldable pub holds_quote : List ℕ → Bool
@@ -58,18 +60,18 @@ unfoldable pub doubled_in : (raw : List ℕ) → Option Bool
 doubled_in raw = map holds_quote (field_value raw)
 
 -- the first raw field of a record, by whether it holds a doubled quote, by the fields behind it and by what stands behind the record
-unfoldable pub read_by : (doubled : Option Bool) → (end : ℕ) → (others : List (List ℕ)) → (behind : Option (List ℕ)) → FieldRead
+unfoldable pub read_by : (doubled : Option Bool) → (end : ℕ) → (others : List (List ℕ)) → (behind : Option (List ℕ)) → Reading
 read_by none end others behind = broken_field
 read_by (some doubled) end (next ∷ others) behind = before_comma end doubled
 read_by (some doubled) end [] (some rest) = before_record_end end doubled
 read_by (some doubled) end [] none = with_file end doubled
 
-unfoldable pub first_read : (doubled : List ℕ → Option Bool) → (from : ℕ) → (raws : List (List ℕ)) → (behind : Option (List ℕ)) → FieldRead
+unfoldable pub first_read : (doubled : List ℕ → Option Bool) → (from : ℕ) → (raws : List (List ℕ)) → (behind : Option (List ℕ)) → Reading
 first_read doubled from [] behind = broken_field
 first_read doubled from (raw ∷ others) behind = read_by (doubled raw) (from + length raw) others behind
 
 -- the field that begins at a place of a file: the first raw field of the record from there on
-unfoldable pub field_read : (file : List ℕ) → (from : ℕ) → FieldRead
+unfoldable pub field_read : (file : List ℕ) → (from : ℕ) → Reading
 field_read file from =
     let front = first_record (drop from file) in
     first_read doubled_in from (raw_fields front.text) front.behind
@@ -79,18 +81,18 @@ unfoldable pub inside_of : List ℕ → List ℕ
 inside_of raw = cond (leb 2 (length raw) && eqb (get_or raw 0 0) quote) (take (length raw - 2) (drop 1 raw)) raw
 
 -- what a raw field is
-unfoldable pub form_by : (doubled : Option Bool) → FieldForm
-form_by none = form.Broken
-form_by (some true) = form.Doubled
-form_by (some false) = form.Part
+unfoldable pub form_by : (doubled : Option Bool) → Form
+form_by none = None
+form_by (some true) = Some Doubled
+form_by (some false) = Some Part
 
-unfoldable pub form_of : (raw : List ℕ) → FieldForm
+unfoldable pub form_of : (raw : List ℕ) → Form
 form_of raw = form_by (doubled_in raw)
 
 -- undoing a field into a buffer with that much space, and what the buffer then holds
 unfoldable pub undone_by : Option (List ℕ) → (space : ℕ) → Undone
-undone_by none space = undoing.Broken
-undone_by (some value) space = cond (leb (length value) space) (undoing.Length (length value)) undoing.TooLong
+undone_by none space = Err Broken
+undone_by (some value) space = cond (leb (length value) space) (Ok (length value)) (Err TooLong)
 
 unfoldable pub undone : (raw : List ℕ) → (space : ℕ) → Undone
 undone raw space = undone_by (field_value raw) space

@@ -1,11 +1,12 @@
 // The fields of a record's text, and their values.
-ghost use Rattle.std.specs.Prelude.{◌≡◌, ◌++◌, ◌≤◌, ◌<◌, length, drop};
+ghost use Rattle.std.specs.Prelude.{◌≡◌, ◌∷◌, ◌++◌, ◌≤◌, ◌<◌, length, drop};
+ghost use Rattle.std.specs.Iterator.{YieldsFirst, item_count};
 ghost use Rattle.csv_fields.specs.Promises.{EndsField, HasForm, HandsPart, Undoes};
-ghost use Rattle.csv_fields.specs.Undoubling.{undoubled, NextByte};
+ghost use Rattle.csv_fields.specs.Undoubling.{undoubled};
 
 use crate::reader::read_quoted;
 use crate::scans::{find_outside, holds, plain_end};
-use crate::{FieldForm, FieldSpan, Undone};
+use crate::{FieldForm, FieldSpan, UndoError};
 
 // The raw field that begins at a place of a record's text: up to the next comma outside quotes.
 pub fn field_at(text: &[u8], from: usize) -> FieldSpan
@@ -18,27 +19,25 @@ pub fn field_at(text: &[u8], from: usize) -> FieldSpan
     }
 }
 
-// What a raw field is: in quotes it is read as in a file, and nothing may stand behind it; any other one is text to its end.
-pub fn form_of(raw: &[u8]) -> FieldForm
+// What a raw field is, if it is one of the grammar: in quotes it is read as in a file, and nothing may stand behind it; any other one is text
+// to its end.
+pub fn form_of(raw: &[u8]) -> Option<FieldForm>
     ensures { HasForm raw.now result }
 {
     if holds(raw, 0, 0x22) {
-        let read = read_quoted(raw, 1);
-        if !read.sound {
-            return FieldForm::Broken;
-        }
+        let read = read_quoted(raw, 1)?;
         if read.end < raw.len() {
-            return FieldForm::Broken;
+            None
+        } else if read.doubled {
+            Some(FieldForm::Doubled)
+        } else {
+            Some(FieldForm::Part)
         }
-        if read.doubled {
-            return FieldForm::Doubled;
-        }
-        return FieldForm::Part;
+    } else if plain_end::<false>(raw, 0) < raw.len() {
+        None
+    } else {
+        Some(FieldForm::Part)
     }
-    if plain_end(raw, 0, false) < raw.len() {
-        return FieldForm::Broken;
-    }
-    FieldForm::Part
 }
 
 // The value of a field that holds no doubled quote: that part of the caller's slice. Of any other raw field what stands between its
@@ -46,40 +45,49 @@ pub fn form_of(raw: &[u8]) -> FieldForm
 pub fn part_of(raw: &[u8]) -> &[u8]
     ensures { HandsPart raw.now result.now }
 {
-    if 2 <= raw.len() {
-        if raw[0] == 0x22 {
-            let end = raw.len() - 1;
-            return &raw[1..end];
-        }
+    match raw {
+        [0x22, inside @ .., _] => inside,
+        _ => raw,
     }
-    raw
 }
 
-// The place behind a byte of a value: a quote stands there with the byte behind it.
-fn next_byte(inside: &[u8], at: usize) -> usize
-    requires { at < length inside.now }
-    ensures { NextByte inside.now at result }
+// What is left inside a field behind one of its bytes: a quote stands there with the byte behind it.
+#[tactic(auto, using(crate::specs::Laws::Undoubling::pair, crate::specs::Laws::Undoubling::alone))]
+fn left_behind(b: u8, behind: &[u8]) -> &[u8]
+    ensures { undoubled (b ∷ behind.now) ≡ b ∷ undoubled result.now }
 {
-    let next = at + 1;
-    if next < inside.len() {
-        if inside[at] == 0x22 {
-            return next + 1;
-        }
+    if b == 0x22 && !behind.is_empty() {
+        &behind[1..]
+    } else {
+        behind
     }
-    next
+}
+
+// The bytes of a value, by what is left inside its field.
+#[derive(Drop)]
+struct Undoubled<'a>(&'a [u8]);
+
+impl<'a> Iterator for Undoubled<'a> {
+    type Item = u8;
+
+    ghost next_gives = { YieldsFirst (λ s. undoubled s.0.now) };
+
+    ghost remaining = { item_count (λ s. undoubled s.0.now) };
+
+    #[tactic(auto, using(crate::specs::Laws::Undoubling::nothing_left))]
+    fn next(&mut self) -> Option<u8> {
+        let (&b, behind) = self.0.split_first()?;
+        self.0 = left_behind(b, behind);
+        Some(b)
+    }
 }
 
 // How long a value is, by what stands inside its field.
+#[tactic(auto, using(crate::specs::Laws::Undoubling::no_longer))]
 fn undoubled_length(inside: &[u8]) -> usize
     ensures { result ≡ length (undoubled inside.now) }
 {
-    let mut at = 0;
-    let mut n = 0;
-    while at < inside.len() {
-        at = next_byte(inside, at);
-        n += 1;
-    }
-    n
+    Undoubled(inside).count()
 }
 
 // Copies a value to the front of a buffer in which it fits.
@@ -88,29 +96,22 @@ fn copy_undoubled(inside: &[u8], out: &mut [u8])
     ensures { out.new
         ≡ undoubled inside.now ++ drop (length (undoubled inside.now)) out.old }
 {
-    let mut at = 0;
-    let mut k = 0;
-    while at < inside.len() {
-        let next = next_byte(inside, at);
-        out[k] = inside[at];
-        at = next;
-        k += 1;
+    for (k, b) in Undoubled(inside).enumerate() {
+        out[k] = b;
     }
 }
 
-// The value of any field, written to the front of a lent buffer. Where it does not fit, or the text is no field, the buffer is kept.
-pub fn undo(raw: &[u8], out: &mut [u8]) -> Undone
+// The value of any field, written to the front of a lent buffer, and its length. Where it does not fit, or the text is no field, the buffer
+// is kept.
+pub fn undo(raw: &[u8], out: &mut [u8]) -> Result<usize, UndoError>
     ensures { Undoes raw.now out.old result out.new }
 {
-    let form = form_of(raw);
-    if let FieldForm::Broken = form {
-        return Undone::Broken;
-    }
+    form_of(raw).ok_or(UndoError::Broken)?;
     let inside = part_of(raw);
     let n = undoubled_length(inside);
     if out.len() < n {
-        return Undone::TooLong;
+        return Err(UndoError::TooLong);
     }
     copy_undoubled(inside, out);
-    Undone::Length(n)
+    Ok(n)
 }

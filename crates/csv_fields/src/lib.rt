@@ -11,46 +11,44 @@ pub use fields::{field_at, form_of, part_of, undo};
 pub use reader::field_read;
 pub use records::record_at;
 
-// Where the text of a record ends, and where the next record begins. A record that no CR LF ends reaches to the end of the file.
-#[derive(Clone, Copy)]
+// Where the text of a record ends, and where the next record begins. A record that no CR LF ends reaches to the end of the file. No Option
+// stands for the next record: a reader goes on there whatever ended this one, and a CR LF at the very end has no record behind it either.
+#[derive(Clone, Copy, Debug, PartialEq, Eq)]
 pub struct RecordSpan {
     pub end: usize,
     pub next: usize,
     pub ended: bool,
 }
 
-// Where a raw field ends, and whether a comma stands there and a further field behind it.
-#[derive(Clone, Copy)]
+// Where a raw field ends, and whether a comma stands there and a further field behind it. No Option stands for that field: its place is
+// always the one behind the end.
+#[derive(Clone, Copy, Debug, PartialEq, Eq)]
 pub struct FieldSpan {
     pub end: usize,
     pub more: bool,
 }
 
-// A field read where it begins in a file: whether it is one of the grammar, where it ends, where what follows begins, whether that is a
-// further field of the record, behind a comma, and whether the field holds a doubled quote. What follows otherwise is the next record,
-// behind CR LF, or the end of the file. Where it is no field of the grammar nothing else is told.
-#[derive(Clone, Copy)]
+// A field of the grammar that was read where it begins in a file: where it ends, where what follows begins, whether that is a further field
+// of the record, behind a comma, and whether the field holds a doubled quote. What follows otherwise is the next record, behind CR LF, or the
+// end of the file.
+#[derive(Clone, Copy, Debug, PartialEq, Eq)]
 pub struct FieldRead {
-    pub sound: bool,
     pub end: usize,
     pub next: usize,
     pub more: bool,
     pub doubled: bool,
 }
 
-// What a raw field is: no field of the grammar; a field whose value is a part of it; or one with doubled quotes, to be undone.
-#[derive(Clone, Copy)]
+// What a field of the grammar is: one whose value is a part of it, or one with doubled quotes, to be undone.
+#[derive(Clone, Copy, Debug, PartialEq, Eq)]
 pub enum FieldForm {
-    Broken,
     Part,
     Doubled,
 }
 
-// What undoing a field's doubled quotes comes to: the length of the value, which stands at the front of the lent buffer; that it does
-// not fit there; or that the text is no field.
-#[derive(Clone, Copy)]
-pub enum Undone {
-    Length(usize),
+// Why a field's value was not written to a lent buffer: it does not fit there, or the text is no field.
+#[derive(Clone, Copy, Debug, PartialEq, Eq)]
+pub enum UndoError {
     TooLong,
     Broken,
 }

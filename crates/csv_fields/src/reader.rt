@@ -1,91 +1,93 @@
 // Reading a file field by field, each byte once.
-ghost use Rattle.std.specs.Prelude.{◌≡◌, false, cond, ◌+◌, ◌<◌, length, drop};
+ghost use Rattle.std.specs.Prelude.{◌≡◌, true, false, cond, ◌+◌, ◌<◌, length, drop};
 ghost use Rattle.rfc4180.specs.Bytes.{line_feed};
 ghost use Rattle.csv_fields.specs.Reader.{begins_with, end_read, plain_read, quoted_read};
 ghost use Rattle.csv_fields.specs.Promises.{ReadsField};
-ghost use Rattle.csv_fields.specs.Spans.{sound_field, broken_field, before_record_end};
+ghost use Rattle.csv_fields.specs.Spans.{told_field, before_record_end, broken_field};
 
 use crate::FieldRead;
 use crate::scans::{holds, is_plain, plain_end};
 use rfc4180::{ByteClass, class_of};
 
-// A field of the grammar.
-fn sound(end: usize, next: usize, more: bool, doubled: bool) -> FieldRead
-    ensures { result ≡ sound_field end next more doubled }
+// A field whose bytes end at a CR: a record end where LF stands behind it, and else broken.
+fn at_carriage_return(file: &[u8], end: usize, doubled: bool) -> Option<FieldRead>
+    requires { end < length file.now }
+    ensures { result ≡ cond (begins_with line_feed (drop (end + 1) file.now)) (before_record_end end doubled) broken_field }
+{
+    if !holds(file, end + 1, 0x0A) {
+        return None;
+    }
+    Some(FieldRead {
+        end,
+        next: end + 2,
+        more: false,
+        doubled,
+    })
+}
+
+// A field whose bytes end at a comma: a further one stands behind it.
+fn at_comma(end: usize, doubled: bool) -> FieldRead
+    requires { end < usize.MAX }
+    ensures { result ≡ told_field end (end + 1) true doubled }
 {
     FieldRead {
-        sound: true,
         end,
-        next,
-        more,
+        next: end + 1,
+        more: true,
         doubled,
     }
 }
 
-// No field of the grammar.
-fn broken() -> FieldRead
-    ensures { result ≡ broken_field }
+// A field that ends with its file.
+fn at_end(end: usize, doubled: bool) -> FieldRead
+    ensures { result ≡ told_field end end false doubled }
 {
     FieldRead {
-        sound: false,
-        end: 0,
-        next: 0,
+        end,
+        next: end,
         more: false,
-        doubled: false,
+        doubled,
     }
-}
-
-// A field whose bytes end at a CR: a record end where LF stands behind it, and else broken.
-fn at_carriage_return(file: &[u8], end: usize, doubled: bool) -> FieldRead
-    requires { end < length file.now }
-    ensures { result ≡ cond (begins_with line_feed (drop (end + 1) file.now)) (before_record_end end doubled) broken_field }
-{
-    if holds(file, end + 1, 0x0A) {
-        return sound(end, end + 2, false, doubled);
-    }
-    broken()
 }
 
 // A quoted field whose closing quote stands before a place: a comma, CR LF or the end of the file follows; anything else breaks it.
-fn closed(file: &[u8], end: usize, doubled: bool) -> FieldRead
+fn closed(file: &[u8], end: usize, doubled: bool) -> Option<FieldRead>
     ensures { result ≡ end_read end doubled (drop end file.now) }
 {
     if file.len() <= end {
-        return sound(end, end, false, doubled);
+        return Some(at_end(end, doubled));
     }
-    let class = class_of(file[end]);
-    match class {
-        ByteClass::Comma => sound(end, end + 1, true, doubled),
+    match class_of(file[end]) {
+        ByteClass::Comma => Some(at_comma(end, doubled)),
         ByteClass::CarriageReturn => at_carriage_return(file, end, doubled),
-        _ => broken(),
+        _ => None,
     }
 }
 
 // A field that is not quoted: each byte is decided by its class. Text goes on, and a run of it is passed at once.
-fn read_plain(file: &[u8], from: usize) -> FieldRead
+fn read_plain(file: &[u8], from: usize) -> Option<FieldRead>
     ensures { result ≡ plain_read from (drop from file.now) }
 {
     let mut at = from;
+    // It goes on by runs of text, and not by one byte, so a `for` over the places does not fit.
     while at < file.len() {
-        let class = class_of(file[at]);
-        match class {
-            ByteClass::Text => {
-                at = plain_end(file, at + 1, false);
-            }
-            ByteClass::Comma => return sound(at, at + 1, true, false),
+        match class_of(file[at]) {
+            ByteClass::Text => at = plain_end::<false>(file, at + 1),
+            ByteClass::Comma => return Some(at_comma(at, false)),
             ByteClass::CarriageReturn => return at_carriage_return(file, at, false),
-            ByteClass::Quote | ByteClass::LineFeed | ByteClass::Refused => return broken(),
+            ByteClass::Quote | ByteClass::LineFeed | ByteClass::Refused => return None,
         }
     }
-    sound(at, at, false, false)
+    Some(at_end(at, false))
 }
 
 // A quoted field, from the place behind its opening quote on.
-pub(crate) fn read_quoted(file: &[u8], from: usize) -> FieldRead
+pub(crate) fn read_quoted(file: &[u8], from: usize) -> Option<FieldRead>
     ensures { result ≡ quoted_read false from (drop from file.now) }
 {
     let mut at = from;
     let mut doubled = false;
+    // It goes on by runs, by pairs of quotes and by bytes, so a `for` over the places does not fit.
     while at < file.len() {
         let b = file[at];
         if b == 0x22 {
@@ -94,25 +96,24 @@ pub(crate) fn read_quoted(file: &[u8], from: usize) -> FieldRead
             }
             doubled = true;
             at += 2;
-        } else if is_plain(b, true) {
-            at = plain_end(file, at + 1, true);
+        } else if is_plain::<true>(b) {
+            at = plain_end::<true>(file, at + 1);
+        } else if class_of(b) == ByteClass::Refused {
+            return None;
         } else {
-            let class = class_of(b);
-            if let ByteClass::Refused = class {
-                return broken();
-            }
             at += 1;
         }
     }
-    broken()
+    None
 }
 
-// The field that begins at a place of a file.
-pub fn field_read(file: &[u8], from: usize) -> FieldRead
+// The field that begins at a place of a file, if one of the grammar stands there.
+pub fn field_read(file: &[u8], from: usize) -> Option<FieldRead>
     ensures { ReadsField file.now from result }
 {
     if holds(file, from, 0x22) {
-        return read_quoted(file, from + 1);
+        read_quoted(file, from + 1)
+    } else {
+        read_plain(file, from)
     }
-    read_plain(file, from)
 }

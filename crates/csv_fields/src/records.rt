@@ -9,22 +9,22 @@ pub fn record_at(file: &[u8], from: usize) -> RecordSpan
     ensures { EndsRecord file.now from result }
 {
     let mut at = from;
-    while at < file.len() {
+    loop {
         at = find_outside(file, at, 0x0D);
-        if at < file.len() {
-            if holds(file, at + 1, 0x0A) {
-                return RecordSpan {
-                    end: at,
-                    next: at + 2,
-                    ended: true,
-                };
-            }
-            at += 1;
+        if file.len() <= at {
+            return RecordSpan {
+                end: at,
+                next: at,
+                ended: false,
+            };
         }
-    }
-    RecordSpan {
-        end: at,
-        next: at,
-        ended: false,
+        if holds(file, at + 1, 0x0A) {
+            return RecordSpan {
+                end: at,
+                next: at + 2,
+                ended: true,
+            };
+        }
+        at += 1;
     }
 }

@@ -3,81 +3,54 @@
 // byte behind each, its title, and its bytes. Where standard input cannot be read or standard output cannot be written, that error ends it.
 #![tactic(auto)]
 
-ghost use Rattle.std.specs.Prelude.{◌≤◌, length, IfOk};
+ghost use Rattle.std.specs.Prelude.{◌≤◌, ◌<◌, length, IfSome};
 
-use lines::Wrote;
-use report::{Page, shown_page, written};
-use std::io;
-use std::io::Read;
-
-// Reads standard input to its end, or up to where the space is full, and returns how many bytes that are.
-fn read_full(rt: &impl Input, space: &mut [u8]) -> io::Result<usize>
-    ensures { IfOk result (λ n. n ≤ length space.old) }
-{
-    let mut reader = rt.reader();
-    let mut n = 0;
-    while n < space.len() {
-        let more = reader.read(&mut space[n..])?;
-        if more == 0 {
-            return Ok(n);
-        }
-        n += more;
-    }
-    Ok(n)
-}
-
-// Writes a page to standard output.
-fn print(rt: &impl Print, page: Page) -> io::Result<()> {
-    let next = page.next;
-    let bytes = page.bytes;
-    rt.write_all(written(&bytes, next))
-}
+use csv_fields::{FieldForm, FieldRead, UndoError};
+use lines::WriteError;
+use report::{Scanner, print, read_full, shown_page};
+use std::io::{self, Write};
 
 // The value of a field with doubled quotes, with so much space to undo them in.
-fn show_undone(rt: &impl Print, raw: &[u8], room: usize) -> io::Result<()>
+fn show_undone<W: Write>(to: &mut W, raw: &[u8], room: usize) -> io::Result<()>
     requires { room ≤ 4096 }
 {
     let mut space = [0u8; 4096];
-    let undone = csv_fields::undo(raw, &mut space[..room]);
-    match undone {
-        csv_fields::Undone::Length(n) => print(rt, shown_page(b" ", &space[..n], b"")),
-        csv_fields::Undone::TooLong => rt.write_all(b" too long"),
-        csv_fields::Undone::Broken => rt.write_all(b" broken"),
+    match csv_fields::undo(raw, &mut space[..room]) {
+        Ok(n) => print(to, shown_page(b" ", &space[..n], b"")),
+        Err(UndoError::TooLong) => to.write_all(b" too long"),
+        Err(UndoError::Broken) => to.write_all(b" broken"),
     }
 }
 
 // The value of a raw field.
-fn show_value(rt: &impl Print, raw: &[u8]) -> io::Result<()> {
-    let form = csv_fields::form_of(raw);
-    match form {
-        csv_fields::FieldForm::Broken => rt.write_all(b" broken"),
-        csv_fields::FieldForm::Part => print(rt, shown_page(b" ", csv_fields::part_of(raw), b"")),
-        csv_fields::FieldForm::Doubled => show_undone(rt, raw, 4096),
+fn show_value<W: Write>(to: &mut W, raw: &[u8]) -> io::Result<()> {
+    match csv_fields::form_of(raw) {
+        Some(FieldForm::Part) => print(to, shown_page(b" ", csv_fields::part_of(raw), b"")),
+        Some(FieldForm::Doubled) => show_undone(to, raw, 4096),
+        None => to.write_all(b" broken"),
     }
 }
 
 // The values of a record's fields, on a line.
-fn show_record(rt: &impl Print, text: &[u8]) -> io::Result<()> {
-    rt.write_all(b"\nrecord")?;
+fn show_record<W: Write>(to: &mut W, text: &[u8]) -> io::Result<()> {
+    to.write_all(b"\nrecord")?;
     let mut from = 0;
     loop {
         let field = csv_fields::field_at(text, from);
-        let end = field.end;
-        show_value(rt, &text[from..end])?;
+        show_value(to, &text[from..field.end])?;
         if !field.more {
             return Ok(());
         }
-        from = end + 1;
+        from = field.end + 1;
     }
 }
 
 // The records of a file, a line for each. A CR LF at the very end ends the last record, and none follows it.
-fn show_records(rt: &impl Print, file: &[u8]) -> io::Result<()> {
+fn show_records<W: Write>(to: &mut W, file: &[u8]) -> io::Result<()> {
     let mut from = 0;
     loop {
         let record = csv_fields::record_at(file, from);
-        let end = record.end;
-        show_record(rt, &file[from..end])?;
+        show_record(to, &file[from..record.end])?;
         from = record.next;
         if file.len() <= from {
             return Ok(());
@@ -85,119 +58,126 @@ fn show_records(rt: &impl Print, file: &[u8]) -> io::Result<()> {
     }
 }
 
-// A raw field that is read in place, and what ends it.
-fn show_raw(rt: &impl Print, raw: &[u8], more: bool, record_end: bool) -> io::Result<()> {
-    if more {
-        print(rt, shown_page(b" ", raw, b" comma"))
-    } else if record_end {
-        print(rt, shown_page(b" ", raw, b" record end"))
+// What ends a field that was read in place.
+fn what_ends(field: FieldRead) -> &'static [u8] {
+    if field.more {
+        b" comma"
+    } else if field.end < field.next {
+        b" record end"
     } else {
-        print(rt, shown_page(b" ", raw, b" end of file"))
+        b" end of file"
     }
 }
 
 // The raw fields of a file, read in place one after the other up to the first that is broken.
-fn show_fields(rt: &impl Print, file: &[u8]) -> io::Result<()> {
+fn show_fields<W: Write>(to: &mut W, file: &[u8]) -> io::Result<()> {
     let mut from = 0;
     loop {
-        let field = csv_fields::field_read(file, from);
-        if !field.sound {
-            return rt.write_all(b" broken");
+        let Some(field) = csv_fields::field_read(file, from) else {
+            return to.write_all(b" broken");
+        };
+        print(
+            to,
+            shown_page(b" ", &file[from..field.end], what_ends(field)),
+        )?;
+        from = field.next;
+        if !field.more && file.len() <= from {
+            return Ok(());
         }
-        let end = field.end;
-        let next = field.next;
-        show_raw(rt, &file[from..end], field.more, end < next)?;
-        if !field.more {
-            if file.len() <= next {
-                return Ok(());
-            }
-        }
-        from = next;
     }
 }
 
 // A file, its records, and its fields.
-fn show_file(rt: &impl Print, file: &[u8]) -> io::Result<()> {
-    print(rt, shown_page(b"\nfile ", file, b""))?;
-    show_records(rt, file)?;
-    rt.write_all(b"\nfields")?;
-    show_fields(rt, file)
+fn show_file<W: Write>(to: &mut W, file: &[u8]) -> io::Result<()> {
+    print(to, shown_page(b"\nfile ", file, b""))?;
+    show_records(to, file)?;
+    to.write_all(b"\nfields")?;
+    show_fields(to, file)
 }
 
-// What stands behind the two dots at the front of an output.
-fn behind_dots(output: &[u8]) -> &[u8] {
-    if output.len() < 2 {
-        output
-    } else {
-        &output[2..]
-    }
-}
-
-// A value of n bytes read back from the output it was written to, with just enough space and with a byte less.
-fn show_back(rt: &impl Print, output: &[u8], wrote: Wrote, n: usize) -> io::Result<()>
+// A value of n bytes read back from what it was written as, with just enough space and with a byte less.
+fn show_back<W: Write>(to: &mut W, raw: &[u8], n: usize) -> io::Result<()>
     requires { n ≤ 4096 }
 {
-    match wrote {
-        Wrote::Next(_) => {
-            let raw = behind_dots(written(output, wrote));
-            show_undone(rt, raw, n)?;
-            if 0 < n {
-                rt.write_all(b", with a byte less")?;
-                show_undone(rt, raw, n - 1)?;
-            }
-            Ok(())
-        }
-        Wrote::Refused => rt.write_all(b" nothing: refused"),
-        Wrote::TooLong => rt.write_all(b" nothing: too long"),
+    show_undone(to, raw, n)?;
+    if 0 < n {
+        to.write_all(b", with a byte less")?;
+        show_undone(to, raw, n - 1)?;
     }
+    Ok(())
 }
 
 // What a value is written as between dots, and the value read back from there.
-fn show_written(rt: &impl Print, value: &[u8]) -> io::Result<()>
+fn show_written<W: Write>(to: &mut W, value: &[u8]) -> io::Result<()>
     requires { length value.now ≤ 4096 }
 {
     let mut output = [b'.'; 24];
-    let wrote = lines::write_field(value, b"", &mut output, Wrote::Next(2));
-    print(rt, shown_page(b"\nvalue ", value, b""))?;
-    print(rt, shown_page(b"\noutput ", &output, b"\nread back"))?;
-    show_back(rt, &output, wrote, value.len())
+    let wrote = lines::write_field(value, b"", &mut output, 2);
+    print(to, shown_page(b"\nvalue ", value, b""))?;
+    print(to, shown_page(b"\noutput ", &output, b"\nread back"))?;
+    match wrote {
+        Ok(end) => show_back(to, output.get(2..end).unwrap_or(&[]), value.len()),
+        Err(WriteError::Refused) => to.write_all(b" nothing: refused"),
+        Err(WriteError::TooLong) => to.write_all(b" nothing: too long"),
+    }
+}
+
+// A file to read, where the letter says so, or a value to write, and its title.
+#[derive(Clone, Copy)]
+struct Example<'a> {
+    letter: u8,
+    title: &'a [u8],
+    bytes: &'a [u8],
 }
 
 // An example: its title, and what comes of it.
-fn show_example<'a>(rt: &impl Print, letter: u8, title: &'a [u8], bytes: &'a [u8]) -> io::Result<()>
-    requires { length bytes.now ≤ 4096 }
+fn show_example<W: Write>(to: &mut W, example: Example<'_>) -> io::Result<()>
+    requires { length example.bytes.now ≤ 4096 }
 {
-    rt.write_all(title)?;
-    if letter == b'R' {
-        show_file(rt, bytes)?;
-    } else {
-        show_written(rt, bytes)?;
+    to.write_all(example.title)?;
+    match example.letter {
+        b'R' => show_file(to, example.bytes)?,
+        _ => show_written(to, example.bytes)?,
     }
-    rt.write_all(b"\n")
+    to.write_all(b"\n")
+}
+
+// The example that an input begins with, and what stands behind it; `None` where it is cut off.
+fn first_example(input: &[u8]) -> Option<(Example<'_>, &[u8])>
+    ensures small { IfSome result (λ found. length found.0.bytes.now ≤ 4096) }
+    ensures behind { IfSome result (λ found. length found.1.now < length input.now) }
+{
+    let (letter, rest) = input.split_first()?;
+    let mut lengths = Scanner { input: rest, at: 0 };
+    let titled = lengths.number(4096) as usize;
+    let sized = lengths.number(4096) as usize;
+    let rest = rest.get(lengths.at.saturating_add(1)..)?;
+    let (title, rest) = rest.split_at_checked(titled)?;
+    let (bytes, rest) = rest.split_at_checked(sized)?;
+    let example = Example {
+        letter: *letter,
+        title,
+        bytes,
+    };
+    Some((example, rest))
 }
 
 // The examples of an input, one after the other.
-fn show_examples(rt: &impl Print, input: &[u8]) -> io::Result<()>
-    requires { length input.now ≤ 65536 }
-{
-    let mut at = 0;
-    while at < input.len() {
-        let titled = report::number(input, at + 1, 4096);
-        let sized = report::number(input, titled.next, 4096);
-        let title = sized.next + 1;
-        let bytes = title + titled.value as usize;
-        let end = bytes + sized.value as usize;
-        if input.len() < end {
-            return rt.write_all(b"cut off\n");
-        }
-        show_example(rt, input[at], &input[title..bytes], &input[bytes..end])?;
-        at = end;
+fn show_examples<W: Write>(to: &mut W, input: &[u8]) -> io::Result<()> {
+    let mut rest = input;
+    while !rest.is_empty() {
+        let Some((example, behind)) = first_example(rest) else {
+            return to.write_all(b"cut off\n");
+        };
+        show_example(to, example)?;
+        rest = behind;
     }
     Ok(())
 }
 
 fn main(rt: HostRuntime) -> io::Result<()> {
+    // larger than the examples, and fixed: a test must not end for lack of memory
     let mut input = [0u8; 65536];
-    let n = read_full(&rt, &mut input)?;
-    show_examples(&rt, &input[..n])
+    let n = read_full(&mut rt.stdin(), &mut input)?;
+    show_examples(&mut rt.stdout(), &input[..n])
 }

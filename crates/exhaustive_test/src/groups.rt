@@ -1,11 +1,9 @@
 // Groups of plans: every plan of a shape, or every so many-th of them, is checked and counted.
-use crate::comparison::{agrees, answer_of, changed};
-use crate::numbers::{front, quotient, times};
-use crate::plans::{Plan, Shape, plan_of, plans_of};
-use crate::tally;
-use crate::tally::{Tally, print};
-use planning::Mode;
-use report::{list_page, words_page};
+use crate::comparison::Answered;
+use crate::plans::Shape;
+use crate::tally::Tally;
+use planning::{Mode, PlanLists};
+use report::{list_page, mode_name, print, words_page};
 use std::io::{self, Write};
 
 // One plan in `step` of a shape, in a mode with its MINUTES.
@@ -20,116 +18,99 @@ pub(crate) struct Group {
 // The most differences of a group that are printed.
 const MOST_SHOWN: u64 = 10;
 
-fn print_mode<W: Write>(out: &mut W, mode: Mode) -> io::Result<()> {
-    match mode {
-        Mode::Fixed => out.write_all(b"fixed"),
-        Mode::Shortest => out.write_all(b"shortest"),
-    }
-}
-
-// Prints the first numbers of a list behind its name.
-fn print_front<'a, W: Write>(
-    out: &mut W,
-    name: &'a [u8],
-    list: &'a [u64],
-    count: u64,
-) -> io::Result<()> {
-    print(out, list_page(name, front(list, count)))
-}
-
-// Prints a plan on which the planners differ.
-fn print_difference<W: Write>(
-    out: &mut W,
-    plan: Plan,
-    mode: Mode,
-    minutes: u64,
-    answer: u64,
-) -> io::Result<()> {
-    print_mode(out, mode)?;
-    print_front(out, b": watts", &plan.watts, plan.engines)?;
-    print_front(out, b"; fuels", &plan.fuels, plan.engines)?;
-    print_front(out, b"; energies", &plan.energies, plan.deliveries)?;
-    print_front(out, b"; limits", &plan.limits, plan.deliveries)?;
-    print_front(out, b"; quiet", &plan.quiet, times(3, plan.spans))?;
+// Prints a plan on which the planners differ, with the allocation's answer: 0 for none, the largest number for one that is wrong by itself.
+fn print_difference<W: Write>(to: &mut W, plan: PlanLists, answer: &Answered) -> io::Result<()> {
+    let minutes = answer.minutes.map_or(u64::MAX, |found| found.unwrap_or(0));
+    to.write_all(mode_name(plan.mode))?;
+    print(to, list_page(b": watts", plan.watts))?;
+    print(to, list_page(b"; fuels", plan.fuels))?;
+    print(to, list_page(b"; energies", plan.energies))?;
+    print(to, list_page(b"; limits", plan.limits))?;
+    print(to, list_page(b"; quiet", plan.quiet))?;
     print(
-        out,
-        words_page(b"; in # min answered #: a difference\n", &[minutes, answer]),
-    )
-}
-
-// Answers a plan both ways, compares, and counts it.
-fn check_plan<W: Write>(
-    out: &mut W,
-    mode: Mode,
-    minutes: u64,
-    plan: Plan,
-    tally: Tally,
-) -> io::Result<Tally> {
-    let answer = answer_of(plan, mode, minutes);
-    let agreed = agrees(plan, mode, minutes, answer);
-    if !agreed {
-        if tally.differences < MOST_SHOWN {
-            print_difference(out, plan, mode, minutes, answer.minutes)?;
-        }
-    }
-    Ok(tally::counted(
-        tally,
-        plan,
-        minutes,
-        answer.minutes,
-        agreed,
-        changed(plan, answer),
-    ))
-}
-
-// Checks the plans of a group.
-fn check_plans<W: Write>(out: &mut W, group: Group) -> io::Result<Tally> {
-    let shape = group.shape;
-    let mode = group.mode;
-    let plans = quotient(plans_of(shape), group.step);
-    let mut tally = tally::empty();
-    let mut i = 0;
-    while i < plans {
-        let plan = plan_of(shape, times(i, group.step));
-        tally = check_plan(out, mode, group.minutes, plan, tally)?;
-        i += 1;
-    }
-    Ok(tally)
-}
-
-// Prints what the plans of a group are.
-fn print_group<W: Write>(out: &mut W, group: Group) -> io::Result<()> {
-    let shape = group.shape;
-    let mode = group.mode;
-    print_mode(out, mode)?;
-    print(
-        out,
+        to,
         words_page(
-            b", minutes #; engines #, sizes 0 to #; deliveries #, energies 1 to #, limits 1 to #; one plan in #\n",
-            &[
-                group.minutes,
-                shape.engines,
-                shape.size,
-                shape.deliveries,
-                shape.energy,
-                shape.limit,
-                group.step,
-            ],
+            b"; in # min answered #: a difference\n",
+            &[plan.minutes, minutes],
         ),
     )
 }
 
-// Checks the plans of a group, prints what was counted, and adds it to a total.
-pub(crate) fn check_group<W: Write>(out: &mut W, group: Group, total: Tally) -> io::Result<Tally> {
-    let tally = check_plans(out, group)?;
-    print_group(out, group)?;
-    tally::print_tally(
-        out,
-        tally,
-        b", # none; # with a limit 1, # with deliveries alike, # with a capacity 0; # differences, # numbers changed behind the lent lists\n",
-    )?;
-    if 1 < group.shape.ways {
-        tally::print_quiet(out, tally)?;
+// Answers a plan both ways, compares, and counts it.
+fn check_plan<W: Write>(to: &mut W, plan: PlanLists, tally: &mut Tally) -> io::Result<()> {
+    let answer = Answered::to(plan);
+    let agreed = answer.is_right(plan);
+    if !agreed && tally.differences < MOST_SHOWN {
+        print_difference(to, plan, &answer)?;
     }
-    Ok(tally::added(total, tally))
+    tally.count(plan, &answer, agreed);
+    Ok(())
+}
+
+impl Group {
+    // Plans under `fixed`, of MINUTES that leave every second engine short of fuel.
+    pub(crate) fn fixed(shape: Shape, step: u64) -> Group {
+        Group {
+            mode: Mode::Fixed,
+            minutes: 4,
+            shape,
+            step,
+        }
+    }
+
+    pub(crate) fn shortest(minutes: u64, shape: Shape, step: u64) -> Group {
+        Group {
+            mode: Mode::Shortest,
+            minutes,
+            shape,
+            step,
+        }
+    }
+
+    // Checks the plans of the group.
+    fn check_plans<W: Write>(&self, to: &mut W) -> io::Result<Tally> {
+        let mut tally = Tally::default();
+        for i in 0..self.shape.plans().checked_div(self.step).unwrap_or(0) {
+            let numbers = self.shape.numbers(i.saturating_mul(self.step));
+            check_plan(to, numbers.plan(self.mode, self.minutes), &mut tally)?;
+        }
+        Ok(tally)
+    }
+
+    // Prints what the plans of the group are.
+    fn print<W: Write>(&self, to: &mut W) -> io::Result<()> {
+        let shape = self.shape;
+        let numbers = [
+            self.minutes,
+            u64::from(shape.engines),
+            u64::from(shape.size),
+            u64::from(shape.deliveries),
+            u64::from(shape.energy),
+            u64::from(shape.limit),
+            self.step,
+        ];
+        to.write_all(mode_name(self.mode))?;
+        print(
+            to,
+            words_page(
+                b", minutes #; engines #, sizes 0 to #; deliveries #, energies 1 to #, limits 1 to #; one plan in #\n",
+                &numbers,
+            ),
+        )
+    }
+
+    // Checks the plans of the group, prints what was counted, and adds it to a total.
+    pub(crate) fn check<W: Write>(&self, to: &mut W, total: &mut Tally) -> io::Result<()> {
+        let tally = self.check_plans(to)?;
+        self.print(to)?;
+        tally.print(
+            to,
+            b", # none; # with a limit 1, # with deliveries alike, # with a capacity 0; # differences, # numbers changed behind the lent lists\n",
+        )?;
+        if 1 < self.shape.ways {
+            tally.print_quiet(to)?;
+        }
+        total.add(&tally);
+        Ok(())
+    }
 }

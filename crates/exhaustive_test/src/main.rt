@@ -7,118 +7,111 @@ mod comparison;
 mod cutting;
 mod exhaustive;
 mod groups;
-mod numbers;
+mod lists;
 mod plans;
 mod tally;
 mod tasks;
 
-use crate::groups::{Group, check_group};
-use crate::plans::{Shape, quiet_shape_of, shape_of};
+use crate::groups::Group;
+use crate::plans::Shape;
 use crate::tally::Tally;
-use planning::Mode;
 use std::io::{self, Write};
 
-// Checks one plan in `step` under `fixed`, of MINUTES that leave every second engine short of fuel.
-fn check_fixed<W: Write>(out: &mut W, shape: Shape, step: u64, total: Tally) -> io::Result<Tally> {
-    let mode = Mode::Fixed;
-    let group = Group {
-        mode,
-        minutes: 4,
-        shape,
-        step,
-    };
-    check_group(out, group, total)
-}
-
-// Checks one plan in `step` under `shortest`.
-fn check_shortest<W: Write>(
-    out: &mut W,
-    minutes: u64,
-    shape: Shape,
-    step: u64,
-    total: Tally,
-) -> io::Result<Tally> {
-    let mode = Mode::Shortest;
-    let group = Group {
-        mode,
-        minutes,
-        shape,
-        step,
-    };
-    check_group(out, group, total)
-}
-
-// Checks one plan in so many under each mode, with some engines of sizes to 3 and at most 3 deliveries of at most 3 Wh.
-fn check_small<W: Write>(
-    out: &mut W,
-    engines: u64,
-    step_fixed: u64,
-    step_shortest: u64,
-    total: Tally,
-) -> io::Result<Tally> {
-    let mut tally = total;
-    let mut deliveries = 0;
-    while deliveries <= 3 {
-        let shape = shape_of(engines, deliveries, 3, 3, 3);
-        tally = check_fixed(out, shape, step_fixed, tally)?;
-        tally = check_shortest(out, 6, shape, step_shortest, tally)?;
-        deliveries += 1;
+// Plans without quiet spans.
+fn shape(engines: u8, deliveries: u8, size: u8, energy: u8, limit: u8) -> Shape {
+    Shape {
+        engines,
+        deliveries,
+        size,
+        energy,
+        limit,
+        ways: 1,
     }
-    Ok(tally)
 }
 
-// Checks one plan in so many under each mode, with some engines of sizes to 3, quiet in any of the ways, and 1 or 2 deliveries.
+// Plans whose engines are quiet in any of the ways.
+fn quiet_shape(engines: u8, deliveries: u8) -> Shape {
+    Shape {
+        engines,
+        deliveries,
+        size: 3,
+        energy: 3,
+        limit: 2,
+        ways: 9,
+    }
+}
+
+// Checks every plan under `fixed` and one in so many under `shortest`, with some engines of sizes to 3 and at most 3 deliveries of at most 3 Wh.
+fn check_small<W: Write>(
+    to: &mut W,
+    engines: u8,
+    step_shortest: u64,
+    total: &mut Tally,
+) -> io::Result<()> {
+    for deliveries in 0..=3 {
+        let shape = shape(engines, deliveries, 3, 3, 3);
+        Group::fixed(shape, 1).check(to, total)?;
+        Group::shortest(6, shape, step_shortest).check(to, total)?;
+    }
+    Ok(())
+}
+
+// Checks one plan in so many under each mode, with some engines of sizes to 3, quiet in any of the ways, and so many deliveries.
 fn check_quiet<W: Write>(
-    out: &mut W,
-    engines: u64,
-    step_one: u64,
-    step_two: u64,
-    total: Tally,
-) -> io::Result<Tally> {
-    let shape = quiet_shape_of(engines, 1);
-    let tally = check_fixed(out, shape, step_one, total)?;
-    let tally = check_shortest(out, 8, shape, step_one, tally)?;
-    let shape = quiet_shape_of(engines, 2);
-    let tally = check_fixed(out, shape, step_two, tally)?;
-    check_shortest(out, 8, shape, step_two, tally)
+    to: &mut W,
+    engines: u8,
+    deliveries: u8,
+    step: u64,
+    total: &mut Tally,
+) -> io::Result<()> {
+    let shape = quiet_shape(engines, deliveries);
+    Group::fixed(shape, step).check(to, total)?;
+    Group::shortest(8, shape, step).check(to, total)
 }
 
 // Prints a total.
-fn print_total<W: Write>(out: &mut W, title: &[u8], total: Tally) -> io::Result<()> {
-    out.write_all(title)?;
-    tally::print_tally(
-        out,
-        total,
+fn print_total<W: Write>(to: &mut W, title: &[u8], total: &Tally) -> io::Result<()> {
+    to.write_all(title)?;
+    total.print(
+        to,
         b", # none; # with a limit 1, # with deliveries alike, # with a capacity 0; # differences\n",
     )
 }
 
 // Plans with quiet spans: every one of 1 engine, and of 2 with 1 delivery, and samples of larger ones.
-fn check_all_quiet<W: Write>(out: &mut W) -> io::Result<()> {
-    let total = check_quiet(out, 1, 1, 1, tally::empty())?;
-    let total = check_quiet(out, 2, 1, 5, total)?;
-    let total = check_quiet(out, 3, 53, 251, total)?;
-    print_total(out, b"all with quiet spans\n", total)?;
-    tally::print_quiet(out, total)
+fn check_all_quiet<W: Write>(to: &mut W) -> io::Result<()> {
+    let mut total = Tally::default();
+    for (engines, step_one, step_two) in [(1, 1, 1), (2, 1, 5), (3, 53, 251)] {
+        check_quiet(to, engines, 1, step_one, &mut total)?;
+        check_quiet(to, engines, 2, step_two, &mut total)?;
+    }
+    print_total(to, b"all with quiet spans\n", &total)?;
+    total.print_quiet(to)
 }
 
 // Every small plan, of those with 3 engines under `shortest` one in 5, and then samples of larger ones: a wrong second cut shows with 4
 // engines, and bulk by whole division breaks no limit with fewer than 5. One plan in 59 takes in a plan where it does.
-fn check_all<W: Write>(out: &mut W) -> io::Result<()> {
-    out.write_all(
+fn check_all<W: Write>(to: &mut W) -> io::Result<()> {
+    to.write_all(
         b"The allocation's answers against those of trying every cutting in 1, 2 and 3 parts of a watt-hour.\n",
     )?;
-    let total = check_small(out, 1, 1, 1, tally::empty())?;
-    let total = check_small(out, 2, 1, 1, total)?;
-    let total = check_small(out, 3, 1, 5, total)?;
-    let total = check_fixed(out, shape_of(2, 4, 5, 6, 2), 101, total)?;
-    let total = check_fixed(out, shape_of(3, 3, 5, 6, 3), 211, total)?;
-    let total = check_fixed(out, shape_of(3, 4, 4, 4, 3), 1409, total)?;
-    let total = check_fixed(out, shape_of(4, 3, 4, 4, 4), 997, total)?;
-    let total = check_fixed(out, shape_of(5, 2, 2, 5, 4), 59, total)?;
-    let total = check_shortest(out, 8, shape_of(3, 3, 5, 5, 3), 499, total)?;
-    print_total(out, b"all\n", total)?;
-    check_all_quiet(out)
+    let mut total = Tally::default();
+    for (engines, step_shortest) in [(1, 1), (2, 1), (3, 5)] {
+        check_small(to, engines, step_shortest, &mut total)?;
+    }
+    let samples = [
+        Group::fixed(shape(2, 4, 5, 6, 2), 101),
+        Group::fixed(shape(3, 3, 5, 6, 3), 211),
+        Group::fixed(shape(3, 4, 4, 4, 3), 1409),
+        Group::fixed(shape(4, 3, 4, 4, 4), 997),
+        Group::fixed(shape(5, 2, 2, 5, 4), 59),
+        Group::shortest(8, shape(3, 3, 5, 5, 3), 499),
+    ];
+    for sample in &samples {
+        sample.check(to, &mut total)?;
+    }
+    print_total(to, b"all\n", &total)?;
+    check_all_quiet(to)
 }
 
 fn main(rt: HostRuntime) -> io::Result<()> {

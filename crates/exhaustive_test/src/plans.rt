@@ -1,208 +1,135 @@
 // Plans made from numbers: the digits of a number, in mixed radix, are the sizes of a plan's engines, its energies, its limits and the ways
 // in which its engines are quiet.
-ghost use Rattle.std.specs.Prelude.{◌≤◌};
-
-use crate::numbers::{entry, has, least, plus, quotient, remainder, times};
+use crate::lists::List;
+use planning::{Mode, PlanLists};
 
 // FUEL's largest value, more than any engine here can burn.
 const UNLIMITED: u64 = 1000000000;
 
+// Enough for every plan here.
+const ALLOWANCE: u64 = 1000000000;
+
+// The ways in which an engine is quiet, each by FROM and TO of its spans.
+const WAYS: [&[(u64, u64)]; 9] = [
+    &[],
+    &[(0, 2)],
+    &[(1, 3)],
+    &[(2, 4)],
+    // all of a plan's minutes here
+    &[(0, 8)],
+    // two that touch
+    &[(1, 2), (2, 4)],
+    &[(3, 5), (0, 1)],
+    &[(4, 12)],
+    &[(8, 20)],
+];
+
+// No way has more spans.
+const MOST_SPANS: usize = 2;
+
 // Plans of so many engines and deliveries: sizes of engines from 0, energies and limits from 1, each up to a largest one, and for each
-// engine the first so many ways of being quiet.
+// engine the first so many of the ways.
 #[derive(Clone, Copy)]
 pub(crate) struct Shape {
-    pub engines: u64,
-    pub deliveries: u64,
-    pub size: u64,
-    pub energy: u64,
-    pub limit: u64,
-    pub ways: u64,
+    pub engines: u8,
+    pub deliveries: u8,
+    pub size: u8,
+    pub energy: u8,
+    pub limit: u8,
+    pub ways: u8,
 }
 
-// Plans without quiet spans.
-pub(crate) fn shape_of(engines: u64, deliveries: u64, size: u64, energy: u64, limit: u64) -> Shape {
-    Shape {
-        engines,
-        deliveries,
-        size,
-        energy,
-        limit,
-        ways: 1,
-    }
-}
-
-// Plans whose engines are quiet in any of the ways of `end_of`.
-pub(crate) fn quiet_shape_of(engines: u64, deliveries: u64) -> Shape {
-    Shape {
-        engines,
-        deliveries,
-        size: 3,
-        energy: 3,
-        limit: 2,
-        ways: 9,
-    }
-}
-
-// Quiet spans, three numbers each, and how many there are.
+// The numbers of a plan: one for each engine or delivery, and of quiet spans three numbers each.
 #[derive(Clone, Copy)]
-pub(crate) struct Spans {
-    pub count: u64,
-    pub numbers: [u64; 18],
+pub(crate) struct Numbers {
+    watts: List,
+    fuels: List,
+    energies: List,
+    limits: List,
+    quiet: List,
 }
 
-// A plan: of each list the first numbers count, one for each engine or delivery, and of `quiet` three for each span.
-#[derive(Clone, Copy)]
-pub(crate) struct Plan {
-    pub engines: u64,
-    pub deliveries: u64,
-    pub spans: u64,
-    pub watts: [u64; 5],
-    pub fuels: [u64; 5],
-    pub energies: [u64; 5],
-    pub limits: [u64; 5],
-    pub quiet: [u64; 18],
-}
-
-// How many cells the table of so many engines and deliveries has.
-pub(crate) fn cells_of(engines: u64, deliveries: u64) -> usize
-    ensures { result ≤ 20 }
-{
-    least(times(engines, deliveries), 20) as usize
-}
-
-// A number to a power.
-fn power(base: u64, exponent: u64) -> u64 {
-    let mut product = 1;
-    let mut i = 0;
-    while i < exponent {
-        product = times(product, base);
-        i += 1;
-    }
-    product
-}
-
-// How many plans of a shape there are.
-pub(crate) fn plans_of(shape: Shape) -> u64 {
-    times(
-        power(times(plus(shape.size, 1), shape.ways), shape.engines),
-        power(times(shape.energy, shape.limit), shape.deliveries),
-    )
-}
-
-// The lowest digits of a number, each raised by `least` and then taken `scale` times.
-fn digits(number: u64, radix: u64, least: u64, scale: u64) -> [u64; 5] {
-    let mut list = [0; 5];
-    let mut rest = number;
-    let mut i = 0;
-    while i < 5 {
-        list[i] = times(scale, plus(least, remainder(rest, radix)));
-        rest = quotient(rest, radix);
-        i += 1;
-    }
-    list
-}
-
-// An end of a span of an engine that is quiet in some way: FROM and TO of its first span and of its second, no span where both are 0. They
-// are a way's digits in base 100, the lowest first. The ways are none, 0 to 2, 1 to 3, 2 to 4, 0 to 8, which is all of a plan's minutes
-// here, 1 to 2 and 2 to 4, which touch, 3 to 5 and 0 to 1, 4 to 12, and 8 to 20.
-fn end_of(way: u64, place: u64) -> u64 {
-    let ways = [0, 200, 301, 402, 800, 4020201, 1000503, 1204, 2008];
-    let ends = digits(entry(&ways, way), 100, 0, 1);
-    entry(&ends, place)
-}
-
-// Spans, and behind them one more, unless it has no minutes or there is no room.
-fn with_span(spans: Spans, engine: u64, from: u64, to: u64) -> Spans {
-    let mut numbers = spans.numbers;
-    let count = spans.count;
-    if count < 6 && from < to {
-        let at = (count * 3) as usize;
-        numbers[at] = engine;
-        numbers[at + 1] = from;
-        numbers[at + 2] = to;
-        Spans {
-            count: count + 1,
-            numbers,
+impl Numbers {
+    // The plan of these numbers.
+    pub(crate) fn plan(&self, mode: Mode, minutes: u64) -> PlanLists<'_> {
+        PlanLists {
+            mode,
+            minutes,
+            allowance: ALLOWANCE,
+            watts: self.watts.items(),
+            fuels: self.fuels.items(),
+            energies: self.energies.items(),
+            limits: self.limits.items(),
+            quiet: self.quiet.items(),
         }
-    } else {
-        spans
+    }
+}
+
+// The lowest digits of a number, so many, which are taken off it.
+fn take_digits(number: &mut u64, radix: u64, count: u8) -> List {
+    let mut digits = List::new(0, usize::from(count));
+    for digit in digits.items_mut() {
+        *digit = number.checked_rem(radix).unwrap_or(0);
+        *number = number.checked_div(radix).unwrap_or(0);
+    }
+    digits
+}
+
+// The fuels of engines of some sizes: the first, the third and the fifth have unlimited fuel, the others as many Wh as their size.
+fn fuels_of(sizes: List) -> List {
+    let mut fuels = sizes;
+    for (engine, fuel) in fuels.items_mut().iter_mut().enumerate() {
+        if engine % 2 == 0 {
+            *fuel = UNLIMITED;
+        }
+    }
+    fuels
+}
+
+// Puts one span of each engine, counted from 0 on, behind others; none of an engine whose way has fewer.
+fn push_spans(quiet: &mut List, ways: &[u64], nth: usize) {
+    for (engine, way) in ways.iter().enumerate() {
+        let spans = WAYS.get(*way as usize).copied().unwrap_or(&[]);
+        if let Some((from, to)) = spans.get(nth) {
+            quiet.push(engine as u64 + 1);
+            quiet.push(*from);
+            quiet.push(*to);
+        }
     }
 }
 
 // The spans of engines that are quiet in these ways: the first of each engine, and then the second ones.
-fn spans_of(engines: u64, ways: [u64; 5]) -> Spans {
-    let count = times(2, engines);
-    let numbers = [0; 18];
-    let mut spans = Spans { count: 0, numbers };
-    let mut i = 0;
-    while i < count {
-        let engine = remainder(i, engines);
-        let way = entry(&ways, engine);
-        let place = times(2, quotient(i, engines));
-        spans = with_span(
-            spans,
-            plus(engine, 1),
-            end_of(way, place),
-            end_of(way, plus(place, 1)),
-        );
-        i += 1;
+fn quiet_of(ways: &[u64]) -> List {
+    let mut quiet = List::new(0, 0);
+    for nth in 0..MOST_SPANS {
+        push_spans(&mut quiet, ways, nth);
     }
-    spans
+    quiet
 }
 
-// The plan of a shape that a number stands for. An engine of size c makes c Wh in 3 minutes. The first, the third and the fifth have unlimited
-// fuel, the others as many Wh as their size, used up after 3 minutes.
-pub(crate) fn plan_of(shape: Shape, number: u64) -> Plan {
-    let sizes = plus(shape.size, 1);
-    let after_engines = quotient(number, power(sizes, shape.engines));
-    let after_energies = quotient(after_engines, power(shape.energy, shape.deliveries));
-    let made = digits(number, sizes, 0, 1);
-    let watts = digits(number, sizes, 0, 20);
-    let fuels = [UNLIMITED, made[1], UNLIMITED, made[3], UNLIMITED];
-    let energies = digits(after_engines, shape.energy, 1, 1);
-    let limits = digits(after_energies, shape.limit, 1, 1);
-    let after_limits = quotient(after_energies, power(shape.limit, shape.deliveries));
-    let spans = spans_of(shape.engines, digits(after_limits, shape.ways, 0, 1));
-    let quiet = spans.numbers;
-    Plan {
-        engines: shape.engines,
-        deliveries: shape.deliveries,
-        spans: spans.count,
-        watts,
-        fuels,
-        energies,
-        limits,
-        quiet,
+impl Shape {
+    // How many plans of the shape there are.
+    pub(crate) fn plans(&self) -> u64 {
+        let engines = (u64::from(self.size) + 1) * u64::from(self.ways);
+        let deliveries = u64::from(self.energy) * u64::from(self.limit);
+        let engines = engines.saturating_pow(u32::from(self.engines));
+        engines.saturating_mul(deliveries.saturating_pow(u32::from(self.deliveries)))
     }
-}
 
-// Whether a delivery before one has its energy and its limit.
-fn has_twin(plan: Plan, delivery: u64) -> bool {
-    let energy = entry(&plan.energies, delivery);
-    let limit = entry(&plan.limits, delivery);
-    let mut i = 0;
-    while i < delivery {
-        if entry(&plan.energies, i) == energy && entry(&plan.limits, i) == limit {
-            return true;
+    // The plan of the shape that a number stands for. An engine of size c makes c Wh in 3 minutes; one with as many Wh of fuel has used it
+    // up after them.
+    pub(crate) fn numbers(&self, number: u64) -> Numbers {
+        let mut rest = number;
+        let sizes = take_digits(&mut rest, u64::from(self.size) + 1, self.engines);
+        let energies = take_digits(&mut rest, u64::from(self.energy), self.deliveries);
+        let limits = take_digits(&mut rest, u64::from(self.limit), self.deliveries);
+        let ways = take_digits(&mut rest, u64::from(self.ways), self.engines);
+        Numbers {
+            watts: sizes.map(|size| size.saturating_mul(20)),
+            fuels: fuels_of(sizes),
+            energies: energies.map(|digit| digit.saturating_add(1)),
+            limits: limits.map(|digit| digit.saturating_add(1)),
+            quiet: quiet_of(ways.items()),
         }
-        i += 1;
     }
-    false
-}
-
-// Whether two deliveries are alike, which makes them equally bulky.
-pub(crate) fn has_tie(plan: Plan) -> bool {
-    let mut i = 0;
-    while i < plan.deliveries {
-        if has_twin(plan, i) {
-            return true;
-        }
-        i += 1;
-    }
-    false
-}
-
-// Whether a delivery has limit 1.
-pub(crate) fn has_limit_one(plan: Plan) -> bool {
-    has(&plan.limits, 0, 1, plan.deliveries, 1)
 }

@@ -1,79 +1,55 @@
 // What a plan comes to in some minutes: document 01's capacities, with the minutes that an engine runs counted one by one.
-use crate::numbers::{entry, least, plus, times};
-use crate::plans::Plan;
+use crate::lists::List;
+use planning::PlanLists;
 
 // The capacities of engines, and deliveries to be served from them.
 #[derive(Clone, Copy)]
-pub(crate) struct Task {
-    pub engines: u64,
-    pub deliveries: u64,
-    pub capacities: [u64; 5],
-    pub energies: [u64; 5],
-    pub limits: [u64; 5],
+pub(crate) struct Task<'a> {
+    pub capacities: &'a [u64],
+    pub energies: &'a [u64],
+    pub limits: &'a [u64],
 }
 
-// Whether an engine, counted from 1, runs in a minute: none of so many spans of the list is the engine's and has the minute.
-fn runs(quiet: &[u64], spans: u64, engine: u64, minute: u64) -> bool {
-    let mut i = 0;
-    while i < spans {
-        let at = times(3, i);
-        let from = entry(quiet, at + 1);
-        let to = entry(quiet, at + 2);
-        if entry(quiet, at) == engine && from <= minute && minute < to {
-            return false;
-        }
-        i += 1;
-    }
-    true
+// Whether an engine, counted from 1, runs in a minute: no span of the list is the engine's and has the minute.
+fn runs(quiet: &[u64], engine: u64, minute: u64) -> bool {
+    let (spans, _) = quiet.as_chunks::<3>();
+    !spans.iter().any(|[of, from, to]| *of == engine && *from <= minute && minute < *to)
 }
 
-// How many of the minutes before one an engine, counted from 0, runs.
-fn running(plan: Plan, engine: u64, minutes: u64) -> u64 {
-    let mut count = 0;
-    let mut minute = 0;
-    while minute < minutes {
-        if runs(&plan.quiet, plan.spans, plus(engine, 1), minute) {
-            count = plus(count, 1);
-        }
-        minute += 1;
-    }
-    count
+// How many of the minutes before one an engine, counted from 1, runs.
+fn running(quiet: &[u64], engine: u64, minutes: u64) -> u64 {
+    (0..minutes)
+        .filter(|minute| runs(quiet, engine, *minute))
+        .count() as u64
 }
 
 // The minutes that each engine runs.
-pub(crate) fn running_each(plan: Plan, minutes: u64) -> [u64; 5] {
-    [
-        running(plan, 0, minutes),
-        running(plan, 1, minutes),
-        running(plan, 2, minutes),
-        running(plan, 3, minutes),
-        running(plan, 4, minutes),
-    ]
+pub(crate) fn running_each(plan: PlanLists, minutes: u64) -> List {
+    let mut each = List::new(0, plan.watts.len());
+    for (engine, count) in each.items_mut().iter_mut().enumerate() {
+        *count = running(plan.quiet, engine as u64 + 1, minutes);
+    }
+    each
 }
 
-// The smaller of FUEL and WATTS × running minutes / 60 rounded down.
-fn capacity(plan: Plan, engine: u64, running: u64) -> u64 {
-    let made = times(entry(&plan.watts, engine), running) / 60;
-    least(entry(&plan.fuels, engine), made)
+// The capacity of each engine: the smaller of FUEL and WATTS × running minutes / 60 rounded down.
+pub(crate) fn capacities_of(plan: PlanLists, minutes: u64) -> List {
+    let mut each = running_each(plan, minutes);
+    for (capacity, (watts, fuel)) in each
+        .items_mut()
+        .iter_mut()
+        .zip(plan.watts.iter().zip(plan.fuels))
+    {
+        *capacity = (watts.saturating_mul(*capacity) / 60).min(*fuel);
+    }
+    each
 }
 
-// A plan's task in some minutes.
-pub(crate) fn task_of(plan: Plan, minutes: u64) -> Task {
-    let running = running_each(plan, minutes);
-    let capacities = [
-        capacity(plan, 0, running[0]),
-        capacity(plan, 1, running[1]),
-        capacity(plan, 2, running[2]),
-        capacity(plan, 3, running[3]),
-        capacity(plan, 4, running[4]),
-    ];
-    let energies = plan.energies;
-    let limits = plan.limits;
+// A plan's task with these capacities of its engines.
+pub(crate) fn task_of<'a>(plan: PlanLists<'a>, capacities: &'a [u64]) -> Task<'a> {
     Task {
-        engines: plan.engines,
-        deliveries: plan.deliveries,
         capacities,
-        energies,
-        limits,
+        energies: plan.energies,
+        limits: plan.limits,
     }
 }

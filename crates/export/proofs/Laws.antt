@@ -1,12 +1,11 @@
 -- What is proved about a mode as a number: without a mode a call is refused just as it is with 0 minutes, so the exported call keeps its
 -- promises.
 -- Assumes nothing.
-use Rattle.std.specs.Prelude.{◌≡◌, refl, ◌⊎◌, Bool, true, false, List, [], ◌∷◌, ◌++◌, ℕ, ◌+◌, ◌≤◌, ◌<◌, length}
+use Rattle.std.specs.Prelude.{◌≡◌, refl, ◌⊎◌, Bool, true, false, List, [], ◌∷◌, ◌++◌, ℕ, ◌+◌, ◌≤◌, ◌<◌, length, Result, Err}
 use Rattle.std.proofs.Common.{sym, ap, ◌∙◌, inl, inr, arith, le-leb}
 use Rattle.std.proofs.Math.Option.{Option, none, some}
 use Rattle.std.proofs.lemmas.Bool.{lt-leb}
-use Rattle.planning.specs.declared.Allocation.{Allocation}
-use Rattle.planning.specs.declared.Allocation.TheVariants.{Refused}
+use Rattle.planning.specs.declared.Answer.{Answer}
 use Rattle.planning.specs.declared.Fault.{Fault}
 use Rattle.planning.specs.declared.Fault.TheVariants.{Fields, Value, Count, NoEngine, Space, UnknownEngine, QuietSpan}
 use Rattle.planning.specs.declared.Refusal.{Refusal}
@@ -106,7 +105,7 @@ no_minutes call =
     (other-check _ Space refl _ _
     (other-check _ Space refl _ _ (zero-minutes _ ∙ ap some (sym (only-behind _ all-behind))))))))))
 
-no_minutes-refused : (call : Call) → allocation (in_minutes 0 call) ≡ Refused (without_mode (refusal_of call))
+no_minutes-refused : (call : Call) → allocation (in_minutes 0 call) ≡ Err (without_mode (refusal_of call))
 unfolding allocation answered_by
 no_minutes-refused call = rw (no_minutes call)
 
@@ -122,12 +121,12 @@ unfolding is_mode minutes_under
 without-mode mode minutes unknown = rw (lt-leb mode 1 unknown)
 
 -- what the allocation promises of the minutes handed on, for a mode and for none
-module _ (mode : ℕ) (call : Call) {answer : Allocation} {table spare : List ℕ}
+module _ (mode : ℕ) (call : Call) {answer : Result Answer Refusal} {table spare : List ℕ}
     (promised : Promised (in_minutes (minutes_under mode call.minutes) call) answer table spare) where
   known : mode ≤ 1 → Promised call answer table spare
   known k = rw (with_mode mode call.minutes k) at promised
 
-  unknown : 1 < mode → (answer ≡ Refused (without_mode (refusal_of call))) × (table ≡ call.table) × (spare ≡ call.spare)
+  unknown : 1 < mode → (answer ≡ Err (without_mode (refusal_of call))) × (table ≡ call.table) × (spare ≡ call.spare)
   unknown k =
       let refused = (rw (without-mode mode call.minutes k) at promised.result) ∙ no_minutes-refused call in
       let kept = promised.turned_down _ refused in

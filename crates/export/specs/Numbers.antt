@@ -1,9 +1,8 @@
 -- The allocation on numbers with the mode as a number too, so that "MODE .. against its form" (document 01, row 6) speaks of it.
 -- Assumes nothing.
-use Rattle.std.specs.Prelude.{ℕ, zero, suc, Bool, true, false, cond, List, leb}
+use Rattle.std.specs.Prelude.{ℕ, zero, suc, Bool, true, false, cond, List, leb, Result, Err}
 use Rattle.std.proofs.Math.Option.{Option, none, some}
-use Rattle.planning.specs.declared.Allocation.{Allocation}
-use Rattle.planning.specs.declared.Allocation.TheVariants.{Refused}
+use Rattle.planning.specs.declared.Answer.{Answer}
 use Rattle.planning.specs.declared.Fault.{Fault}
 use Rattle.planning.specs.declared.Fault.TheVariants.{Size, Grammar, Fields, Kind, Name, Value, Count, NoEngine, Space, UnknownEngine, QuietSpan}
 use Rattle.planning.specs.declared.Mode.{Mode}
@@ -42,8 +41,8 @@ unfoldable pub without_mode : Option Refusal → Refusal
 without_mode (some refusal) = cond (before_mode refusal.fault) refusal no_mode
 without_mode none = no_mode
 
-unfoldable pub allocation_by : (mode : ℕ) → Call → Allocation
-allocation_by mode call = cond (is_mode mode) (allocation call) (Refused (without_mode (refusal_of call)))
+unfoldable pub allocation_by : (mode : ℕ) → Call → Result Answer Refusal
+allocation_by mode call = cond (is_mode mode) (allocation call) (Err (without_mode (refusal_of call)))
 
 -- "Each refusal .. changes nothing lent."
 unfoldable pub table_by : (mode : ℕ) → Call → List ℕ

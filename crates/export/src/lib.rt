@@ -2,14 +2,13 @@
 // interface/fothwen.h declares them for C, interface/fothwen.rs for Rust.
 #![tactic(auto)]
 
-ghost use Rattle.std.specs.Prelude.{◌≡◌};
+ghost use Rattle.std.specs.Prelude.{◌≡◌, Ok, Err};
 ghost use Rattle.planning.specs.Numbers.{call_on};
 ghost use Rattle.filecall.specs.Calls.{call_with};
 ghost use Rattle.export.specs.Numbers.{mode_of, minutes_under};
-ghost use Rattle.export.specs.Replies.{word_of, answered_by, refused_by, Replied, FileReplied, LookupReplied};
+ghost use Rattle.export.specs.Replies.{word_of, answered_by, refused_by, lookup_reply_of, Replied, FileReplied, LookupReplied};
 
-use planfile::FileAnswer;
-use planning::{Allocation, Answer, Lookup, Mode, Outcome, Refusal};
+use planning::{Answer, Mode, Outcome, PlanLists, Refusal};
 
 // What planning comes to: the word is 0 found, 1 none, 2 stopped, 3 refused. An answer has its minutes and tries, and with a file the
 // length of its print; a refusal has its number and place. The other numbers are 0.
@@ -24,7 +23,8 @@ pub struct PlanReply {
     pub place: u64,
 }
 
-// What a spare lookup comes to: the word is 0 where an engine is named, 1 none, 3 refused. The engine is counted from 0.
+// What a spare lookup comes to: the word is 0 where an engine is named, 1 none, 3 refused. The engine is counted from 0. The C interface has a
+// struct of its own for it.
 #[repr(C)]
 #[derive(Clone, Copy)]
 pub struct LookupReply {
@@ -34,7 +34,8 @@ pub struct LookupReply {
     pub place: u64,
 }
 
-// 0 is fixed; 1 is shortest, and what stands for a number that is no mode.
+// 0 is fixed; 1 is shortest, and what stands for a number that is no mode. The numbers of modes and of answers are the C interface's own, so
+// planning has no conversion to them.
 #[tactic(auto, unfolding(crate::specs::Numbers::mode_of))]
 fn mode_of(mode: u64) -> Mode
     ensures { result ≡ mode_of mode }
@@ -54,6 +55,7 @@ fn minutes_under(mode: u64, minutes: u64) -> u64
     if mode <= 1 { minutes } else { 0 }
 }
 
+// The word of an answer; 3 is a refusal's.
 #[tactic(auto, unfolding(crate::specs::Replies::word_of))]
 fn word_of(outcome: Outcome) -> u64
     ensures { result ≡ word_of outcome }
@@ -65,37 +67,78 @@ fn word_of(outcome: Outcome) -> u64
     }
 }
 
-#[tactic(auto, unfolding(crate::specs::Replies::answered_by))]
-fn answered(answer: Answer, length: u64) -> PlanReply
-    ensures { result ≡ answered_by answer length }
-{
-    let outcome = answer.outcome;
-    PlanReply {
-        word: word_of(outcome),
-        minutes: answer.minutes,
-        tries: answer.tries,
-        length: length,
-        number: 0,
-        place: 0,
+// An answer, with the length of its print.
+impl From<(Answer, usize)> for PlanReply {
+    ghost from_gives = { λ answered reply. reply ≡ answered_by answered.0 answered.1 };
+
+    #[tactic(auto, unfolding(crate::specs::Replies::answered_by))]
+    fn from((answer, length): (Answer, usize)) -> PlanReply {
+        PlanReply {
+            word: word_of(answer.outcome),
+            minutes: answer.minutes,
+            tries: answer.tries,
+            length: length as u64,
+            number: 0,
+            place: 0,
+        }
     }
 }
 
-#[tactic(auto, unfolding(crate::specs::Replies::refused_by))]
-fn refused(refusal: Refusal) -> PlanReply
-    ensures { result ≡ refused_by refusal }
-{
-    let fault = refusal.fault;
-    PlanReply {
-        word: 3,
-        minutes: 0,
-        tries: 0,
-        length: 0,
-        number: planning::number_of(fault),
-        place: refusal.place,
+// A refusal, of a plan and of a lookup.
+impl From<Refusal> for PlanReply {
+    ghost from_gives = { λ refusal reply. reply ≡ refused_by refusal };
+
+    #[tactic(auto, unfolding(crate::specs::Replies::refused_by))]
+    fn from(refusal: Refusal) -> PlanReply {
+        PlanReply {
+            word: 3,
+            minutes: 0,
+            tries: 0,
+            length: 0,
+            number: refusal.fault.into(),
+            place: refusal.place,
+        }
     }
 }
 
-// `allocation::allocate`, with the mode as a number.
+// What a lookup found: an engine, or that none has the amount.
+impl From<Option<usize>> for LookupReply {
+    ghost from_gives = { λ found reply. reply ≡ lookup_reply_of (Ok found) };
+
+    #[tactic(auto, unfolding(crate::specs::Replies::lookup_reply_of))]
+    fn from(found: Option<usize>) -> LookupReply {
+        match found {
+            Some(i) => LookupReply {
+                word: 0,
+                engine: i as u64,
+                number: 0,
+                place: 0,
+            },
+            None => LookupReply {
+                word: 1,
+                engine: 0,
+                number: 0,
+                place: 0,
+            },
+        }
+    }
+}
+
+impl From<Refusal> for LookupReply {
+    ghost from_gives = { λ refusal reply. reply ≡ lookup_reply_of (Err refusal) };
+
+    #[tactic(auto, unfolding(crate::specs::Replies::lookup_reply_of))]
+    fn from(refusal: Refusal) -> LookupReply {
+        LookupReply {
+            word: 3,
+            engine: 0,
+            number: refusal.fault.into(),
+            place: refusal.place,
+        }
+    }
+}
+
+// `allocation::allocate`, with the mode as a number and each list by itself, as the C interface has them.
 #[unsafe(no_mangle)]
 pub extern "C" fn fothwen_allocate<'a>(
     mode: u64,
@@ -113,21 +156,19 @@ pub extern "C" fn fothwen_allocate<'a>(
         (call_on (mode_of mode) minutes allowance watts.now fuels.now energies.now limits.now quiet.now table.old spare.old)
         result table.new spare.new }
 {
-    let r = allocation::allocate(
-        mode_of(mode),
-        minutes_under(mode, minutes),
+    let lists = PlanLists {
+        mode: mode_of(mode),
+        minutes: minutes_under(mode, minutes),
         allowance,
         watts,
         fuels,
         energies,
         limits,
         quiet,
-        table,
-        spare,
-    );
-    match r {
-        Allocation::Answered(answer) => answered(answer, 0),
-        Allocation::Refused(refusal) => refused(refusal),
+    };
+    match allocation::allocate(lists, table, spare) {
+        Ok(answer) => (answer, 0).into(),
+        Err(refusal) => refusal.into(),
     }
 }
 
@@ -143,10 +184,9 @@ pub extern "C" fn fothwen_plan_file(
         (call_with file.now table.old spare.old output.old)
         result table.new spare.new output.new }
 {
-    let r = filecall::plan_file(file, table, spare, output);
-    match r {
-        FileAnswer::Printed(answer, n) => answered(answer, n as u64),
-        FileAnswer::Refused(refusal) => refused(refusal),
+    match filecall::plan_file(file, table, spare, output) {
+        Ok(answered) => answered.into(),
+        Err(refusal) => refusal.into(),
     }
 }
 
@@ -155,28 +195,8 @@ pub extern "C" fn fothwen_plan_file(
 pub extern "C" fn fothwen_spare_lookup(spare: &[u64], amount: u64) -> LookupReply
     ensures { LookupReplied spare.now amount result }
 {
-    let found = lookup::spare_lookup(spare, amount);
-    match found {
-        Lookup::Engine(i) => LookupReply {
-            word: 0,
-            engine: i as u64,
-            number: 0,
-            place: 0,
-        },
-        Lookup::Nowhere => LookupReply {
-            word: 1,
-            engine: 0,
-            number: 0,
-            place: 0,
-        },
-        Lookup::Refused(refusal) => {
-            let fault = refusal.fault;
-            LookupReply {
-                word: 3,
-                engine: 0,
-                number: planning::number_of(fault),
-                place: refusal.place,
-            }
-        }
+    match lookup::spare_lookup(spare, amount) {
+        Ok(found) => found.into(),
+        Err(refusal) => refusal.into(),
     }
 }

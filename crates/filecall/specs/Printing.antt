@@ -1,4 +1,4 @@
--- What the functions of the print put into an output: the lines of planfile's Print, by the names in a plan by value and the pieces.
+-- What the functions of the print put into an output: the lines of planfile's Print, by names and pieces.
 -- Assumes nothing.
 use Rattle.std.specs.Prelude.{List, [], ◌∷◌, ℕ, length}
 use Rattle.planning.specs.declared.Answer.{Answer}
@@ -6,15 +6,6 @@ use Rattle.planning.specs.declared.Outcome.{Outcome}
 use Rattle.planning.specs.declared.Outcome.TheVariants.{Found, None, Stopped}
 use Rattle.planning.specs.Tables.{piece_in}
 use Rattle.planfile.specs.Print.{Line, piece_lines, answer_line}
-use Rattle.planreader.specs.declared.FilePlan.{FilePlan}
-use Rattle.planreader.specs.Plans.{name_list}
-
--- the names of a plan's engines and deliveries
-abbrev pub engine_list : FilePlan → List (List ℕ)
-engine_list p = name_list p.engines p.engine_names p.engine_sizes
-
-abbrev pub delivery_list : FilePlan → List (List ℕ)
-delivery_list p = name_list p.deliveries p.delivery_names p.delivery_sizes
 
 -- the lines behind line 1: "Others print one line"
 unfoldable pub lines_behind : Outcome → (deliveries engines : List (List ℕ)) → (pieces : List ℕ) → List Line

@@ -8,72 +8,60 @@ ghost use Rattle.filecall.specs.Calls.{call_with};
 ghost use Rattle.filecall.specs.HandOver.{Answers, lent_lists, HandedOver};
 
 use crate::print;
-use lines::Wrote;
-use planfile::{FileAnswer, LONGEST_PRINT};
-use planning::{Allocation, Answer, Fault, MOST_CELLS, MOST_ENGINES, Outcome, Refusal, Verdict};
+use planfile::LONGEST_PRINT;
+use planning::{Answer, Fault, MOST_CELLS, MOST_ENGINES, PlanLists, Refusal};
 use planreader::FilePlan;
 
-// The plan answered, on tables of its own lengths.
-fn planned(plan: FilePlan, pieces: &mut [u64], spares: &mut [u64]) -> Answer
-    requires { UsablePlan plan
-        × (length pieces.old ≡ plan.deliveries * plan.engines)
-        × (length spares.old ≡ plan.engines) }
-    ensures { Answers plan result pieces.old spares.old pieces.new spares.new }
+// A lent list of the wrong length, or too little space for the print.
+const NO_SPACE: Refusal = Refusal {
+    fault: Fault::Space,
+    place: 0,
+};
+
+// The plan answered, on tables of its own lengths. A plan that was read passes every check.
+fn planned(plan: &FilePlan, pieces: &mut [u64], spares: &mut [u64]) -> Answer
+    requires { UsablePlan plan.now
+        × (length pieces.old ≡ plan.now.deliveries.count * plan.now.engines.count)
+        × (length spares.old ≡ plan.now.engines.count) }
+    ensures { Answers plan.now result pieces.old spares.old pieces.new spares.new }
 {
-    let mode = plan.mode;
-    let engines = plan.engines;
-    let deliveries = plan.deliveries;
-    let watts = plan.watts;
-    let fuels = plan.fuels;
-    let energies = plan.energies;
-    let limits = plan.limits;
-    let numbers = 3 * plan.spans;
-    let quiet = plan.quiet;
-    let allocation = allocation::allocate(
-        mode,
-        plan.minutes,
-        plan.allowance,
-        &watts[..engines],
-        &fuels[..engines],
-        &energies[..deliveries],
-        &limits[..deliveries],
-        &quiet[..numbers],
-        pieces,
-        spares,
-    );
-    let Allocation::Answered(answer) = allocation else {
-        // never: a plan that was read passes every check
-        return Answer {
-            outcome: Outcome::None,
-            minutes: 0,
-            tries: 0,
-        };
+    let engines = plan.engines.count;
+    let deliveries = plan.deliveries.count;
+    let lists = PlanLists {
+        mode: plan.mode,
+        minutes: plan.minutes,
+        allowance: plan.allowance,
+        watts: &plan.engines.firsts[..engines],
+        fuels: &plan.engines.seconds[..engines],
+        energies: &plan.deliveries.firsts[..deliveries],
+        limits: &plan.deliveries.seconds[..deliveries],
+        quiet: &plan.quiet[..3 * plan.spans],
     };
-    answer
+    allocation::allocate(lists, pieces, spares).unwrap()
 }
 
 // Answers a plan that was read in the lists lent, of the right lengths and with space for every print.
-fn answer(plan: FilePlan, table: &mut [u64], spare: &mut [u64], output: &mut [u8]) -> FileAnswer
-    requires { UsablePlan plan
+fn answer(
+    plan: &FilePlan,
+    table: &mut [u64],
+    spare: &mut [u64],
+    output: &mut [u8],
+) -> (Answer, usize)
+    requires { UsablePlan plan.now
         × (length table.old ≡ most_cells)
         × (length spare.old ≡ most_engines)
         × (longest_print ≤ length output.old) }
-    ensures { HandedOver (plan_by plan) result
+    ensures { HandedOver (plan_by plan.now) (Ok result)
         (lent_lists table.old spare.old output.old)
         (lent_lists table.new spare.new output.new) }
 {
-    let engines = plan.engines;
-    let cells = plan.deliveries * engines;
-    let answer = planned(plan, &mut table[..cells], &mut spare[..engines]);
-    let print = print::write(plan, answer, &table[..cells], output);
-    // never anything else: every print fits there
-    let Wrote::Next(n) = print else {
-        return FileAnswer::Refused(Refusal {
-            fault: Fault::Space,
-            place: 0,
-        });
-    };
-    FileAnswer::Printed(answer, n)
+    let pieces = &mut table[..plan.deliveries.count * plan.engines.count];
+    let answer = planned(plan, pieces, &mut spare[..plan.engines.count]);
+    let deliveries = &plan.deliveries.names[..plan.deliveries.count];
+    let engines = &plan.engines.names[..plan.engines.count];
+    // never an error: every print fits there
+    let n = print::write(deliveries, engines, answer, pieces, output).unwrap();
+    (answer, n)
 }
 
 // The call where tables of the right lengths come with space for every print: it is answered in the lists lent.
@@ -82,26 +70,21 @@ pub(crate) fn in_place(
     table: &mut [u64],
     spare: &mut [u64],
     output: &mut [u8],
-) -> FileAnswer
+) -> Result<(Answer, usize), Refusal>
     requires { length table.old ≡ most_cells → length spare.old ≡ most_engines → longest_print ≤ length output.old }
     ensures { FilePromised
         (call_with file.now table.old spare.old output.old)
         result table.new spare.new output.new }
 {
-    let reading = planreader::read(file);
-    let verdict = reading.verdict;
-    match verdict {
-        Verdict::Refused(refusal) => FileAnswer::Refused(refusal),
-        Verdict::Accepted => {
-            if table.len() != MOST_CELLS || spare.len() != MOST_ENGINES {
-                return FileAnswer::Refused(Refusal {
-                    fault: Fault::Space,
-                    place: 0,
-                });
-            }
-            answer(reading.plan, table, spare, output)
-        }
+    // Not by `?`: tried, and Rattle makes no proof behind it for a plan that holds names.
+    let plan = match planreader::read(file) {
+        Ok(plan) => plan,
+        Err(refusal) => return Err(refusal),
+    };
+    if table.len() != MOST_CELLS || spare.len() != MOST_ENGINES {
+        return Err(NO_SPACE);
     }
+    Ok(answer(&plan, table, spare, output))
 }
 
 // The call answered in lists of its own, which are handed over where the print fits: so 9 is decided before anything lent is written.
@@ -110,7 +93,7 @@ pub(crate) fn aside(
     table: &mut [u64],
     spare: &mut [u64],
     output: &mut [u8],
-) -> FileAnswer
+) -> Result<(Answer, usize), Refusal>
     requires { (length table.old ≡ most_cells) × (length spare.old ≡ most_engines) }
     ensures { FilePromised
         (call_with file.now table.old spare.old output.old)
@@ -121,19 +104,12 @@ pub(crate) fn aside(
     let mut made = [0u8; LONGEST_PRINT];
     planning::copy(&*table, &mut own_table);
     planning::copy(&*spare, &mut own_spare);
-    let answer = in_place(file, &mut own_table, &mut own_spare, &mut made);
-    let FileAnswer::Printed(_, n) = answer else {
-        return answer;
-    };
-    let front = Wrote::Next(0);
-    let print = lines::write_bytes(&made[..n], output, front);
-    let Wrote::Next(_) = print else {
-        return FileAnswer::Refused(Refusal {
-            fault: Fault::Space,
-            place: 0,
-        });
-    };
+    let (answer, n) = in_place(file, &mut own_table, &mut own_spare, &mut made)?;
+    let print = lines::write_bytes(&made[..n], output, 0);
+    if print.is_err() {
+        return Err(NO_SPACE);
+    }
     planning::copy(&own_table, table);
     planning::copy(&own_spare, spare);
-    answer
+    Ok((answer, n))
 }

@@ -1,6 +1,5 @@
 // The planner's print: its lines put into an output one after the other.
-ghost use Rattle.std.specs.Prelude.{◌≡◌, [], ◌∷◌, ◌+◌, ◌*◌, length};
-ghost use Rattle.lines.specs.declared.Wrote.TheVariants.{Next};
+ghost use Rattle.std.specs.Prelude.{◌≡◌, [], ◌∷◌, ◌*◌, length};
 ghost use Rattle.lines.specs.Lines.{PutLines};
 ghost use Rattle.lines.specs.Putting.{output};
 ghost use Rattle.planning.specs.Sum.{positives};
@@ -8,110 +7,77 @@ ghost use Rattle.planning.specs.Tables.{piece_in, at as entry_at};
 ghost use Rattle.planfile.specs.Numerals.{decimal};
 ghost use Rattle.planfile.specs.Print.{line_of, row_lines, piece_lines};
 ghost use Rattle.planfile.specs.Promises.{RefusalWritten};
-ghost use Rattle.planreader.specs.Plans.{name_at, name_list, NamesHeld, UsablePlan};
-ghost use Rattle.filecall.specs.Printing.{engine_list, delivery_list, print_lines};
+ghost use Rattle.filecall.specs.Printing.{print_lines};
 
-use lines::Wrote;
-use planfile::MOST_NAME_BYTES;
+use lines::{WriteError, write_bytes, write_field, write_number};
 use planning::{Answer, Outcome, Refusal};
-use planreader::FilePlan;
+use planreader::Name;
 
 // The line of a piece. Its word needs no quotes, and is put as it is.
-fn write_piece<'a>(
-    delivery: &'a [u8],
-    engine: &'a [u8],
+fn write_piece(
+    delivery: &[u8],
+    engine: &[u8],
     piece: u64,
     out: &mut [u8],
-    to: Wrote,
-) -> Wrote
+    at: usize,
+) -> Result<usize, WriteError>
     ensures { PutLines (line_of delivery.now engine.now (decimal piece) ∷ [])
-        (output to out.old) (output result out.new) }
+        (output (Ok at) out.old) (output result out.new) }
 {
-    let next = lines::write_bytes(b"piece", out, to);
-    let next = lines::write_bytes(b",", out, next);
-    let next = lines::write_field(delivery, b",", out, next);
-    let next = lines::write_field(engine, b",", out, next);
-    lines::write_number(piece, b"\r\n", out, next)
-}
-
-// The name at a place of a list of names, which has MOST_NAME_BYTES for each, of which so many count.
-fn name_at<'a>(names: &'a [u8], sizes: &'a [u8], k: usize) -> &'a [u8]
-    requires { NamesHeld (k + 1) names.now sizes.now }
-    ensures { result.now ≡ name_at names.now sizes.now k }
-{
-    let from = MOST_NAME_BYTES * k;
-    let end = from + sizes[k] as usize;
-    &names[from..end]
+    let at = write_bytes(b"piece", out, at)?;
+    let at = write_bytes(b",", out, at)?;
+    let at = write_field(delivery, b",", out, at)?;
+    let at = write_field(engine, b",", out, at)?;
+    write_number(piece, b"\r\n", out, at)
 }
 
 // The lines of a delivery: one for each of its pieces above 0, by the names of the engines.
-fn write_row<'a>(
-    delivery: &'a [u8],
-    names: &'a [u8],
-    sizes: &'a [u8],
-    row: &'a [u64],
+fn write_row(
+    delivery: &[u8],
+    engines: &[Name],
+    row: &[u64],
     out: &mut [u8],
-    to: Wrote,
-) -> Wrote
-    requires { NamesHeld (length row.now) names.now sizes.now }
-    ensures { PutLines
-        (row_lines delivery.now (name_list (length row.now) names.now sizes.now) (entry_at row.now))
-        (output to out.old) (output result out.new) }
+    at: usize,
+) -> Result<usize, WriteError>
+    requires { length row.now ≡ length engines.now }
+    ensures { PutLines (row_lines delivery.now engines.now (entry_at row.now))
+        (output (Ok at) out.old) (output result out.new) }
 {
-    let mut next = to;
-    let mut i = 0;
-    while i < row.len() {
-        let piece = row[i];
-        if 0 < piece {
-            next = write_piece(delivery, name_at(names, sizes, i), piece, out, next);
+    let mut to = at;
+    for (i, piece) in row.iter().enumerate() {
+        if 0 < *piece {
+            to = write_piece(delivery, engines[i].bytes(), *piece, out, to)?;
         }
-        i += 1;
     }
-    next
+    Ok(to)
 }
 
 // The lines of all deliveries, of which each has a row of the pieces.
-fn write_rows(plan: FilePlan, pieces: &[u64], out: &mut [u8], to: Wrote) -> Wrote
-    requires { UsablePlan plan × (length pieces.now ≡ plan.deliveries * plan.engines) }
-    ensures { PutLines (piece_lines (delivery_list plan) (engine_list plan) (piece_in plan.engines pieces.now))
-        (output to out.old) (output result out.new) }
+fn write_rows(
+    deliveries: &[Name],
+    engines: &[Name],
+    pieces: &[u64],
+    out: &mut [u8],
+    at: usize,
+) -> Result<usize, WriteError>
+    requires { length pieces.now ≡ length deliveries.now * length engines.now }
+    ensures { PutLines (piece_lines deliveries.now engines.now (piece_in (length engines.now) pieces.now))
+        (output (Ok at) out.old) (output result out.new) }
 {
-    let engines = plan.engines;
-    let engine_names = plan.engine_names;
-    let engine_sizes = plan.engine_sizes;
-    let delivery_names = plan.delivery_names;
-    let delivery_sizes = plan.delivery_sizes;
-    let mut next = to;
-    let mut p = 0;
-    while p < plan.deliveries {
-        let first = p * engines;
-        let last = first + engines;
-        next = write_row(
-            name_at(&delivery_names, &delivery_sizes, p),
-            &engine_names,
-            &engine_sizes,
-            &pieces[first..last],
-            out,
-            next,
-        );
-        p += 1;
+    let mut to = at;
+    for (p, delivery) in deliveries.iter().enumerate() {
+        let first = p * engines.len();
+        let row = &pieces[first..first + engines.len()];
+        to = write_row(delivery.bytes(), engines, row, out, to)?;
     }
-    next
+    Ok(to)
 }
 
 // How many pieces are above 0.
 fn count_pieces(pieces: &[u64]) -> u64
     ensures { result ≡ positives (length pieces.now) (entry_at pieces.now) }
 {
-    let mut count = 0;
-    let mut i = 0;
-    while i < pieces.len() {
-        if 0 < pieces[i] {
-            count += 1;
-        }
-        i += 1;
-    }
-    count
+    pieces.iter().filter(|piece| 0 < **piece).count() as u64
 }
 
 // Line 1, by its word and its numbers.
@@ -121,58 +87,55 @@ fn write_answer(
     tries: u64,
     pieces: u64,
     out: &mut [u8],
-    to: Wrote,
-) -> Wrote
+) -> Result<usize, WriteError>
     ensures { PutLines ((word.now ∷ decimal minutes ∷ decimal tries ∷ decimal pieces ∷ []) ∷ [])
-        (output to out.old) (output result out.new) }
+        (output (Ok 0) out.old) (output result out.new) }
 {
-    let next = lines::write_field(word, b",", out, to);
-    let next = lines::write_number(minutes, b",", out, next);
-    let next = lines::write_number(tries, b",", out, next);
-    lines::write_number(pieces, b"\r\n", out, next)
+    let at = write_field(word, b",", out, 0)?;
+    let at = write_number(minutes, b",", out, at)?;
+    let at = write_number(tries, b",", out, at)?;
+    write_number(pieces, b"\r\n", out, at)
 }
 
 // The whole print, from the front of the output.
-pub(crate) fn write(plan: FilePlan, answer: Answer, pieces: &[u64], out: &mut [u8]) -> Wrote
-    requires { UsablePlan plan × (length pieces.now ≡ plan.deliveries * plan.engines) }
-    ensures { PutLines (print_lines answer (delivery_list plan) (engine_list plan) pieces.now)
-        (output (Next 0) out.old) (output result out.new) }
+pub(crate) fn write(
+    deliveries: &[Name],
+    engines: &[Name],
+    answer: Answer,
+    pieces: &[u64],
+    out: &mut [u8],
+) -> Result<usize, WriteError>
+    requires { length pieces.now ≡ length deliveries.now * length engines.now }
+    ensures { PutLines (print_lines answer deliveries.now engines.now pieces.now)
+        (output (Ok 0) out.old) (output result out.new) }
 {
-    let minutes = answer.minutes;
-    let tries = answer.tries;
-    let outcome = answer.outcome;
-    let front = Wrote::Next(0);
+    let Answer {
+        outcome,
+        minutes,
+        tries,
+    } = answer;
     match outcome {
         Outcome::Found => {
-            let next = write_answer(b"found", minutes, tries, count_pieces(pieces), out, front);
-            write_rows(plan, pieces, out, next)
+            let at = write_answer(b"found", minutes, tries, count_pieces(pieces), out)?;
+            write_rows(deliveries, engines, pieces, out, at)
         }
-        Outcome::None => write_answer(b"none", minutes, tries, 0, out, front),
-        Outcome::Stopped => write_answer(b"stopped", minutes, tries, 0, out, front),
+        Outcome::None => write_answer(b"none", minutes, tries, 0, out),
+        Outcome::Stopped => write_answer(b"stopped", minutes, tries, 0, out),
     }
 }
 
 // No line of a refusal is longer: its word, two numbers, 0, three commas, CR and LF.
 const LONGEST_REFUSAL: usize = 13 + 2 * lines::MOST_DIGITS;
 
-// Writes the line that the program prints for a refusal at the front of an output, where it fits; answers its length, or 0. The line is made
-// aside, so that nothing is written where it does not fit.
+// Writes the line that the program prints for a refusal at the front of an output, where it fits; answers its length, or 0. That is how much
+// of the output a caller prints, so it is no `Option`. The line is made aside, where every one fits, so that nothing is written where it does
+// not fit.
 pub fn write_refusal(refusal: Refusal, out: &mut [u8]) -> usize
     ensures { RefusalWritten refusal out.old result out.new }
 {
-    let fault = refusal.fault;
-    let number = planning::number_of(fault);
+    let number = u64::from(refusal.fault);
     let record = refusal.place;
-    let front = Wrote::Next(0);
     let mut line = [0u8; LONGEST_REFUSAL];
-    let made = write_answer(b"refused", number, record, 0, &mut line, front);
-    // never anything else: every line fits there
-    let Wrote::Next(n) = made else {
-        return 0;
-    };
-    let wrote = lines::write_bytes(&line[..n], out, front);
-    match wrote {
-        Wrote::Next(to) => to,
-        _ => 0,
-    }
+    let n = write_answer(b"refused", number, record, 0, &mut line).unwrap();
+    write_bytes(&line[..n], out, 0).unwrap_or(0)
 }

@@ -1,12 +1,11 @@
 -- Texts put into an output one behind the other: what the functions that programs print by return and leave.
 -- Assumes nothing.
-use Rattle.std.specs.Prelude.{◌≡◌, Bool, true, false, cond, List, [], ◌∷◌, ◌++◌, ℕ, ◌+◌, ◌-◌, leb, length, take, drop}
+use Rattle.std.specs.Prelude.{◌≡◌, Bool, true, false, cond, List, [], ◌∷◌, ◌++◌, ℕ, ◌+◌, ◌-◌, leb, length, take, drop, Result, Ok, Err}
 use Rattle.std.proofs.Math.Option.{Option, none, some}
-use Rattle.rfc4180.specs.Writer.{written, writable, needs_quotes, quote_count}
+use Rattle.rfc4180.specs.Writer.{written, writable}
 use Rattle.planfile.specs.Numerals.{decimal}
-use Rattle.lines.specs.declared.Wrote.{Wrote}
-use Rattle.lines.specs.declared.Wrote.TheVariants.{Next, Refused, TooLong}
-use Rattle.lines.specs.declared.field.ValueMeasure.{ValueMeasure}
+use Rattle.lines.specs.declared.WriteError.{WriteError}
+use Rattle.lines.specs.declared.WriteError.TheVariants.{Refused, TooLong}
 
 -- ---- texts
 
@@ -28,10 +27,10 @@ number n = some (decimal n)
 
 -- an output: the place of the next text, or why there is none, and the bytes that it holds
 pub record Output : Type 0 where
-  pub next : Wrote
+  pub next : Result ℕ WriteError
   pub bytes : List ℕ
 
-abbrev pub output : Wrote → (bytes : List ℕ) → Output
+abbrev pub output : Result ℕ WriteError → (bytes : List ℕ) → Output
 output next bytes = record { next = next; bytes = bytes }
 
 -- some bytes in the place of those that stood from a place on
@@ -41,14 +40,13 @@ put_at at bytes lent = take at lent ++ (bytes ++ drop (at + length bytes) lent)
 -- A text at the next place, where it fits: the place behind it is then the next. Where it cannot be written or does not fit, neither it
 -- nor any later text is put.
 unfoldable pub put_if : (fits : Bool) → (at : ℕ) → (bytes lent : List ℕ) → Output
-put_if true at bytes lent = output (Next (at + length bytes)) (put_at at bytes lent)
-put_if false at bytes lent = output TooLong lent
+put_if true at bytes lent = output (Ok (at + length bytes)) (put_at at bytes lent)
+put_if false at bytes lent = output (Err TooLong) lent
 
-unfoldable pub put_next : Text → Wrote → (lent : List ℕ) → Output
-put_next text Refused lent = output Refused lent
-put_next text TooLong lent = output TooLong lent
-put_next none (Next at) lent = output Refused lent
-put_next (some bytes) (Next at) lent = put_if (leb (at + length bytes) (length lent)) at bytes lent
+unfoldable pub put_next : Text → Result ℕ WriteError → (lent : List ℕ) → Output
+put_next text (Err error) lent = output (Err error) lent
+put_next none (Ok at) lent = output (Err Refused) lent
+put_next (some bytes) (Ok at) lent = put_if (leb (at + length bytes) (length lent)) at bytes lent
 
 unfoldable pub put : Text → Output → Output
 put text out = put_next text out.next out.bytes
@@ -71,10 +69,4 @@ pub record Puts (texts : List Text) (before after : Output) : Type 0 where
 -- And where they are written, what stands from the place before up to the place behind reads as it is meant.
 pub record Writes (texts : List Text) (Reads : List ℕ → Type 0) (before after : Output) : Type 0 where
   pub puts : Puts texts before after
-  pub reads : (from to : ℕ) → before.next ≡ Next from → after.next ≡ Next to → Reads (between from to after.bytes)
-
--- ---- what the inner functions return
-
--- a value: whether it can be written, whether it needs quotes, and how many quotes it holds
-unfoldable pub value_measure : List ℕ → ValueMeasure
-value_measure value = record { writable = writable value; quoted = needs_quotes value; quotes = quote_count value }
+  pub reads : (from to : ℕ) → before.next ≡ Ok from → after.next ≡ Ok to → Reads (between from to after.bytes)

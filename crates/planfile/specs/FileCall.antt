@@ -1,13 +1,13 @@
 -- The call with a file (document 01, "Turned down" and "The planner's print"): what it returns, and what the lent tables and the
 -- output hold afterwards.
 -- Assumes nothing.
-use Rattle.std.specs.Prelude.{ℕ, cond, List, length, leb, eqb}
+use Rattle.std.specs.Prelude.{ℕ, cond, List, length, leb, eqb, Result, Ok, Err}
+use Rattle.planning.specs.declared.Answer.{Answer}
 use Rattle.planning.specs.declared.Fault.TheVariants.{Space}
+use Rattle.planning.specs.declared.Refusal.{Refusal}
 use Rattle.planning.specs.Bounds.{most_cells, most_engines}
 use Rattle.planning.specs.Modes.{planned, answer_of, table_after, spares_after}
 use Rattle.planning.specs.Tables.{over_front}
-use Rattle.planfile.specs.declared.FileAnswer.{FileAnswer}
-use Rattle.planfile.specs.declared.FileAnswer.TheVariants.{Printed, Refused}
 use Rattle.planfile.specs.FilePlan.{FilePlan, unnamed}
 use Rattle.planfile.specs.Print.{print_of, refusal_print}
 use Rattle.planfile.specs.Reading.{Read, refused, accepted, require, read_file, ◌>>=◌}
@@ -33,11 +33,11 @@ read_call call = do
   accepted f
 
 -- what the call returns: the answer with the print's length, or "its number and the record"
-unfoldable pub answer_by : Read FilePlan → FileAnswer
-answer_by (refused refusal) = Refused refusal
-answer_by (accepted f) = Printed (answer_of (planned (unnamed f))) (length (printed f))
+unfoldable pub answer_by : Read FilePlan → Result (Answer × ℕ) Refusal
+answer_by (refused refusal) = Err refusal
+answer_by (accepted f) = Ok (answer_of (planned (unnamed f)), length (printed f))
 
-unfoldable pub answer_to_file : FileCall → FileAnswer
+unfoldable pub answer_to_file : FileCall → Result (Answer × ℕ) Refusal
 answer_to_file call = answer_by (read_call call)
 
 -- the lent lists afterwards: "fills from the front what its plan has, and keeps the others"; each refusal "changes nothing lent"
@@ -57,17 +57,17 @@ file_output call = on_exit (read_call call) call.output (λ f. over_front (print
 
 -- "`refused,NUMBER,RECORD,0`": the call's print, or behind a refusal its line where there is space for it. The print's length, 0 where nothing
 -- is printed ..
-unfoldable pub print_length_by : FileAnswer → (space : ℕ) → ℕ
-print_length_by (Printed answer n) space = n
-print_length_by (Refused refusal) space = cond (leb (length (refusal_print refusal)) space) (length (refusal_print refusal)) 0
+unfoldable pub print_length_by : Result (Answer × ℕ) Refusal → (space : ℕ) → ℕ
+print_length_by (Ok (answer, n)) space = n
+print_length_by (Err refusal) space = cond (leb (length (refusal_print refusal)) space) (length (refusal_print refusal)) 0
 
 unfoldable pub print_length : FileCall → ℕ
 print_length call = print_length_by (answer_to_file call) (length call.output)
 
 -- .. and the output afterwards
-unfoldable pub print_output_by : FileAnswer → (output : List ℕ) → List ℕ
-print_output_by (Printed answer n) output = output
-print_output_by (Refused refusal) output = cond (leb (length (refusal_print refusal)) (length output)) (over_front (refusal_print refusal) output) output
+unfoldable pub print_output_by : Result (Answer × ℕ) Refusal → (output : List ℕ) → List ℕ
+print_output_by (Ok (answer, n)) output = output
+print_output_by (Err refusal) output = cond (leb (length (refusal_print refusal)) (length output)) (over_front (refusal_print refusal) output) output
 
 unfoldable pub print_output : FileCall → List ℕ
 print_output call = print_output_by (answer_to_file call) (file_output call)

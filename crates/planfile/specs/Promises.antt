@@ -1,7 +1,7 @@
 -- What the call with a file promises, for every call: the fields of its contract. Demands 1 to 3 are said in terms of cuttings and of the plan
 -- that the bytes hold; the reading and its order of checks have no part in them.
 -- Assumes nothing.
-use Rattle.std.specs.Prelude.{◌≡◌, ◌≢◌, ◌↔◌, ℕ, suc, ◌+◌, ◌*◌, ◌≤◌, ◌<◌, length, take, drop, get_or}
+use Rattle.std.specs.Prelude.{◌≡◌, ◌≢◌, ◌↔◌, ℕ, suc, ◌+◌, ◌*◌, ◌≤◌, ◌<◌, length, take, drop, get_or, Result, Ok, Err}
 use mathlib.Core.List.{List, [], ◌∷◌, Memᴰ}
 use Rattle.rfc4180.specs.Grammar.{File}
 use Rattle.rfc4180.specs.Records.{records}
@@ -19,8 +19,6 @@ use Rattle.planning.specs.Tables.{piece_in, at, cell}
 use Rattle.planning.specs.Plan.{Within}
 use Rattle.planning.specs.Search.{found}
 use Rattle.planning.specs.Sum.{sum, positives}
-use Rattle.planfile.specs.declared.FileAnswer.{FileAnswer}
-use Rattle.planfile.specs.declared.FileAnswer.TheVariants.{Printed, Refused}
 use Rattle.planfile.specs.FileCall.{FileCall, printed, answer_to_file, file_table, file_spare, file_output, print_length_by, print_output_by, program_print}
 use Rattle.planfile.specs.FilePlan.{FilePlan, unnamed, engine_names, delivery_names, name_at}
 use Rattle.planfile.specs.Holding.{Holds}
@@ -91,7 +89,7 @@ pub record PiecesRead (lines : List Line) (f : FilePlan) (table : List ℕ) : Ty
 -- ---- the contract
 
 -- `table'`, `spare'` and `output'` are what the lent lists hold on exit
-pub record FilePromised (call : FileCall) (r : FileAnswer) (table' spare' output' : List ℕ) : Type 0 where
+pub record FilePromised (call : FileCall) (r : Result (Answer × ℕ) Refusal) (table' spare' output' : List ℕ) : Type 0 where
   -- what is returned, and what the lent lists hold, are what the definitions say
   pub result : r ≡ answer_to_file call
   pub table : table' ≡ file_table call
@@ -99,43 +97,43 @@ pub record FilePromised (call : FileCall) (r : FileAnswer) (table' spare' output
   pub output : output' ≡ file_output call
   -- Demand 1. A call that is accepted, and no other, is answered: "An answer is one of found, none and stopped, carried with its minutes and
   -- tries."
-  pub answered_exactly : ((a : Answer) × (n : ℕ) × (r ≡ Printed a n)) ↔ FileAccepted call
+  pub answered_exactly : ((a : Answer) × (n : ℕ) × (r ≡ Ok (a, n))) ↔ FileAccepted call
   -- Any other call is refused: for want of space exactly where the bytes hold a plan, else for a fault of the file. (Which fault, and which
   -- record, the field `result` says.)
-  pub refused_by_file : (refusal : Refusal) → r ≡ Refused refusal
+  pub refused_by_file : (refusal : Refusal) → r ≡ Err refusal
       → FaultInFile (length (records call.file)) refusal.fault refusal.place
       × ((refusal.fault ≡ Space) ↔ ((f : FilePlan) × Holds call.file f))
   -- Each refusal "changes nothing lent".
-  pub turned_down : (refusal : Refusal) → r ≡ Refused refusal → (table' ≡ call.table) × (spare' ≡ call.spare) × (output' ≡ call.output)
+  pub turned_down : (refusal : Refusal) → r ≡ Err refusal → (table' ≡ call.table) × (spare' ≡ call.spare) × (output' ≡ call.output)
   -- Demand 2. "Found writes the piece table .. and each engine's spare: capacity less its pieces." The table is a cutting in whole watt-hours
   -- that serves the plan in the answered minutes: each delivery's pieces add up to its energy, each engine's to at most its capacity, and at
   -- most LIMIT of a delivery's pieces are above 0. The call "fills from the front what its plan has, and keeps the others".
-  pub found_serves : (a : Answer) (n : ℕ) (f : FilePlan) → r ≡ Printed a n → Holds call.file f → a.outcome ≡ Found
+  pub found_serves : (a : Answer) (n : ℕ) (f : FilePlan) → r ≡ Ok (a, n) → Holds call.file f → a.outcome ≡ Found
       → Serves 1 (unnamed f) a.minutes (piece_of f table')
       × ((i : ℕ) → i < length f.engines
       → at spare' i + sum (length f.deliveries) (λ p. piece_of f table' p i) ≡ at (capacities (unnamed f) a.minutes) i)
       × (drop (plan_cells f) table' ≡ drop (plan_cells f) call.table)
       × (drop (length f.engines) spare' ≡ drop (length f.engines) call.spare)
   -- "None and stopped leave both untouched."
-  pub kept_unless_found : (a : Answer) (n : ℕ) → r ≡ Printed a n → a.outcome ≢ Found → (table' ≡ call.table) × (spare' ≡ call.spare)
+  pub kept_unless_found : (a : Answer) (n : ℕ) → r ≡ Ok (a, n) → a.outcome ≢ Found → (table' ≡ call.table) × (spare' ≡ call.spare)
   -- "where one more would exceed the allowance, the answer is stopped, its tries equal to the allowance": the search at the answered
   -- minutes needs more tries than were allowed.
-  pub stopped_exactly : (a : Answer) (n : ℕ) (f : FilePlan) → r ≡ Printed a n → Holds call.file f
+  pub stopped_exactly : (a : Answer) (n : ℕ) (f : FilePlan) → r ≡ Ok (a, n) → Holds call.file f
       → ((a.outcome ≡ Stopped) ↔ (f.allowance < tries_of (unlimited_at (unnamed f) a.minutes)))
       × (a.outcome ≡ Stopped → a.tries ≡ f.allowance)
   -- "The print stands at the front of the lent output; bytes behind it are kept."
-  pub print_reads : (a : Answer) (n : ℕ) (f : FilePlan) → r ≡ Printed a n → Holds call.file f
+  pub print_reads : (a : Answer) (n : ℕ) (f : FilePlan) → r ≡ Ok (a, n) → Holds call.file f
       → (n ≤ length call.output) × (drop n output' ≡ drop n call.output) × PrintLines (take n output') f a table'
   -- Whatever a found print is read as, by the definition of RFC 4180, is the table's pieces.
-  pub reads_back : (a : Answer) (n : ℕ) (f : FilePlan) → r ≡ Printed a n → Holds call.file f → a.outcome ≡ Found
+  pub reads_back : (a : Answer) (n : ℕ) (f : FilePlan) → r ≡ Ok (a, n) → Holds call.file f → a.outcome ≡ Found
       → (lines : List Line) → File (take n output') lines → PiecesRead lines f table'
   -- Demand 3. Unless the answer is stopped, it is none exactly when, for every n from 1, no cutting in n parts serves the plan in its
   -- MINUTES: "The minutes a plan gives are its MINUTES, in both modes".
-  pub none_exactly : (a : Answer) (n : ℕ) (f : FilePlan) → r ≡ Printed a n → Holds call.file f → a.outcome ≢ Stopped
+  pub none_exactly : (a : Answer) (n : ℕ) (f : FilePlan) → r ≡ Ok (a, n) → Holds call.file f → a.outcome ≢ Stopped
       → (a.outcome ≡ None) ↔ NotServed (unnamed f) f.minutes
   -- "a shortest time is the minutes carried with found under `shortest`": a cutting serves the plan in that time, and none in any smaller
   -- whole minute down to one. A fixed time that is answered found is the plan's MINUTES.
-  pub shortest_exactly : (a : Answer) (n : ℕ) (f : FilePlan) → r ≡ Printed a n → Holds call.file f → a.outcome ≡ Found
+  pub shortest_exactly : (a : Answer) (n : ℕ) (f : FilePlan) → r ≡ Ok (a, n) → Holds call.file f → a.outcome ≡ Found
       → (f.mode ≡ Shortest → ShortestTime (unnamed f) a.minutes)
       × (f.mode ≡ Fixed → a.minutes ≡ f.minutes)
 
@@ -144,8 +142,8 @@ pub record FilePromised (call : FileCall) (r : FileAnswer) (table' spare' output
 -- The line stands at the front of the lent output where there is space for it, and its length is returned; else nothing is written, and
 -- 0 is returned. Read by the definition of RFC 4180, it is "`refused,NUMBER,RECORD,0`".
 pub record RefusalWritten (refusal : Refusal) (lent : List ℕ) (n : ℕ) (output' : List ℕ) : Type 0 where
-  pub result : n ≡ print_length_by (Refused refusal) (length lent)
-  pub output : output' ≡ print_output_by (Refused refusal) lent
+  pub result : n ≡ print_length_by (Err refusal) (length lent)
+  pub output : output' ≡ print_output_by (Err refusal) lent
   pub reads : 0 < n → File (take n output') (refusal_line refusal ∷ [])
 
 -- ---- The program `planner`

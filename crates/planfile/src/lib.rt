@@ -1,7 +1,7 @@
-// The plan file: the types that the call with a file speaks of. Their meaning is given in specs/; there are no functions here.
+// The plan file: the bounds that only a file has. What a file means is given in specs/; there are no functions here.
 #![tactic(auto)]
 
-use planning::{Answer, MOST_DELIVERIES, MOST_ENGINES, Refusal};
+use planning::{MOST_DELIVERIES, MOST_ENGINES};
 
 // The bounds of document 01 that only a file has, under the names that specs/Bounds gives them.
 pub const MOST_BYTES: usize = 32768;
@@ -14,10 +14,3 @@ pub const MOST_NAME_BYTE: u8 = 0x7E;
 
 // No print is longer: 27 bytes for line 1, and 88 for each piece, of which a plan has at most one for each engine and delivery (specs/Print).
 pub const LONGEST_PRINT: usize = 27 + (MOST_ENGINES + MOST_DELIVERIES) * 88;
-
-// What the call with a file returns: the answer with the length of the print, or a refusal.
-#[derive(Clone, Copy)]
-pub enum FileAnswer {
-    Printed(Answer, usize),
-    Refused(Refusal),
-}

@@ -1,44 +1,33 @@
 // Plans the file on standard input and prints the answer, or the refusal, on standard output.
 #![tactic(auto)]
 
-ghost use Rattle.std.specs.Prelude.{◌≡◌, ◌≤◌, length, take};
+ghost use Rattle.std.specs.Prelude.{◌≡◌, ◌≤◌, length, take, IfOk};
 ghost use Rattle.planfile.specs.Print.{longest_print};
 ghost use Rattle.planfile.specs.Promises.{ProgramPrints};
-ghost use Rattle.planner.specs.Input.{WithinBuffer};
 
-use planfile::{FileAnswer, LONGEST_PRINT, MOST_BYTES};
+use planfile::{LONGEST_PRINT, MOST_BYTES};
 use planning::MOST_ENGINES;
-use std::io;
-use std::io::{Read, Write};
+use std::io::{self, Read, Write};
 
-// What reading comes to: so many bytes up to the end of the input or of the buffer, or a failure.
-#[derive(Drop)]
-enum Input {
-    Bytes(usize),
-    Failed,
-}
-
-// Reads to the end of the input, or until the buffer is full. A read that a signal interrupts is tried again; half a file may be a valid
-// plan, so any other failure is told apart from the end. A proved loop has to end: it counts up to a number that no run comes to.
-fn read_input<R: Read>(from: &mut R, buffer: &mut [u8]) -> Input
-    ensures { WithinBuffer result (length buffer.new) }
+// Reads to the end of the input, or until the buffer is full, and answers how many bytes that are. A read that a signal interrupts is tried
+// again, which report's `read_full` does not; half a file may be a valid plan, so any other failure is told apart from the end. A proved loop
+// has to end: it counts up to a number that no run comes to.
+fn read_input<R: Read>(from: &mut R, buffer: &mut [u8]) -> io::Result<usize>
+    ensures { IfOk result (λ n. n ≤ length buffer.new) }
 {
     let mut filled = 0;
     for _ in 0..u64::MAX {
         if filled == buffer.len() {
-            return Input::Bytes(filled);
+            return Ok(filled);
         }
         match from.read(&mut buffer[filled..]) {
-            Ok(0) => return Input::Bytes(filled),
+            Ok(0) => return Ok(filled),
             Ok(got) => filled += got,
-            Err(error) => {
-                if error.kind() != io::ErrorKind::Interrupted {
-                    return Input::Failed;
-                }
-            }
+            Err(error) if error.kind() == io::ErrorKind::Interrupted => {}
+            Err(_) => break,
         }
     }
-    Input::Failed
+    Err(io::Error::other("planner: read"))
 }
 
 // Plans a file, prints the answer or the refusal into the output, and answers the length of the print. With these tables and this much
@@ -51,10 +40,9 @@ fn print_of(file: &[u8], output: &mut [u8]) -> usize
     // MOST_CELLS, written out as the documents do
     let mut table = [0u64; 444];
     let mut spare = [0u64; MOST_ENGINES];
-    let answer = filecall::plan_file(file, &mut table, &mut spare, &mut *output);
-    match answer {
-        FileAnswer::Printed(_, n) => n,
-        FileAnswer::Refused(refusal) => filecall::write_refusal(refusal, output),
+    match filecall::plan_file(file, &mut table, &mut spare, output) {
+        Ok((_, n)) => n,
+        Err(refusal) => filecall::write_refusal(refusal, output),
     }
 }
 
@@ -68,9 +56,6 @@ fn plan<W: Write>(file: &[u8], to: &mut W) -> io::Result<()> {
 fn main(rt: HostRuntime) -> io::Result<()> {
     // one byte more than a file may have, which is enough to refuse it by 1
     let mut file = [0u8; MOST_BYTES + 1];
-    let input = read_input(&mut rt.stdin(), &mut file);
-    match input {
-        Input::Bytes(n) => plan(&file[..n], &mut rt.stdout()),
-        Input::Failed => Err(io::Error::other("planner: read")),
-    }
+    let n = read_input(&mut rt.stdin(), &mut file)?;
+    plan(&file[..n], &mut rt.stdout())
 }

@@ -1,29 +1,39 @@
 -- A plan by value, as the code has it behind the checks: the plan that it stands for, when it can be planned, and the one that a call's
 -- numbers make up.
 -- Assumes nothing.
-use Rattle.std.specs.Prelude.{◌≡◌, List, map, ℕ, suc, ◌≤◌, length}
+use Rattle.std.specs.Prelude.{◌≡◌, List, map, ℕ, suc, ◌≤◌, max, length, get_or}
 use Rattle.planning.specs.declared.Deliveries.{Deliveries}
+use Rattle.planning.specs.declared.EngineFigures.{EngineFigures}
 use Rattle.planning.specs.declared.Engines.{Engines}
 use Rattle.planning.specs.declared.Plan.{Plan as ByValue}
+use Rattle.planning.specs.declared.QuietSpan.{QuietSpan}
 use Rattle.planning.specs.declared.Spans.{Spans}
 use Rattle.planning.specs.Bounds.{most_engines, most_deliveries, most_quiet, most_minutes, most_tries}
 use Rattle.planning.specs.Numbers.{Call, quiet_of}
 use Rattle.planning.specs.Plan.{Plan, Engine, Delivery, All, Within, EngineInRange, DeliveryInRange}
 use Rattle.planning.specs.Quiet.{Quiet, spans_of}
-use Rattle.planning.specs.Tables.{at, listed, padded}
+use Rattle.planning.specs.Tables.{at, listed, filled, padded}
 
 -- ---- the plan that it stands for
 
--- the quiet span at a place of the columns, and as many as are counted
+-- what stands behind those that are counted
+abbrev pub no_span : QuietSpan
+no_span = record { engine = 0; from = 0; to = 0 }
+
+abbrev pub no_figures : EngineFigures
+no_figures = record { watts = 0; fuel = 0 }
+
+-- the quiet span at a place, and as many as are counted
 unfoldable pub quiet_at : Spans → (k : ℕ) → Quiet
-quiet_at q k = record { engine = at q.engine k; span = record { from = at q.from k; to = at q.to k } }
+quiet_at q k = let s = get_or q.spans k no_span in record { engine = s.engine; span = record { from = s.from; to = s.to } }
 
 unfoldable pub quiet_in : Spans → List Quiet
 quiet_in q = listed q.count (λ k. quiet_at q k)
 
--- the engine with its spans, and the delivery, at a place of their columns
+-- the engine with its spans, and the delivery, at a place
 unfoldable pub engine_in : Engines → (i : ℕ) → Engine
-engine_in e i = record { watts = at e.watts i; fuel = at e.fuel i; quiet = spans_of (suc i) (quiet_in e.quiet) }
+engine_in e i =
+    let f = get_or e.figures i no_figures in record { watts = f.watts; fuel = f.fuel; quiet = spans_of (suc i) (quiet_in e.quiet) }
 
 unfoldable pub delivery_in : Deliveries → (p : ℕ) → Delivery
 delivery_in d p = record { energy = at d.energy p; limit = at d.limit p }
@@ -45,20 +55,17 @@ plan_in p =
       deliveries = deliveries_in p.deliveries;
     }
 
--- ---- when it can be planned: counts and ranges are document 01's, and every column fills its array
+-- ---- when it can be planned: counts and ranges are document 01's, and every array is full
 
 pub record UsableSpans (engines : ℕ) (q : Spans) : Type 0 where
   pub count : q.count ≤ most_quiet
   pub known : All (λ (x : Quiet). Within 1 engines x.engine) (quiet_in q)
-  pub engine : length q.engine ≡ most_quiet
-  pub from : length q.from ≡ most_quiet
-  pub to : length q.to ≡ most_quiet
+  pub spans : length q.spans ≡ most_quiet
 
 pub record UsableEngines (e : Engines) : Type 0 where
   pub count : Within 1 most_engines e.count
   pub ranges : All EngineInRange (engines_in e)
-  pub watts : length e.watts ≡ most_engines
-  pub fuel : length e.fuel ≡ most_engines
+  pub figures : length e.figures ≡ most_engines
   pub quiet : UsableSpans e.count e.quiet
 
 pub record UsableDeliveries (d : Deliveries) : Type 0 where
@@ -73,16 +80,19 @@ pub record Usable (p : ByValue) : Type 0 where
   pub engines : UsableEngines p.engines
   pub deliveries : UsableDeliveries p.deliveries
 
--- ---- the numbers of a call by value: each list in front of its column, zeros behind it
+-- ---- the numbers of a call by value: what its lists have at each place, zeros behind them
+
+abbrev pub span_by : Quiet → QuietSpan
+span_by q = record { engine = q.engine; from = q.span.from; to = q.span.to }
 
 unfoldable pub spans_by : List Quiet → Spans
-spans_by quiet =
-    record {
-      count = length quiet;
-      engine = padded most_quiet (map (λ (q : Quiet). q.engine) quiet);
-      from = padded most_quiet (map (λ (q : Quiet). q.span.from) quiet);
-      to = padded most_quiet (map (λ (q : Quiet). q.span.to) quiet);
-    }
+spans_by quiet = record { count = length quiet; spans = filled no_span most_quiet (map span_by quiet) }
+
+abbrev pub figures_of : (watts fuels : List ℕ) → (i : ℕ) → EngineFigures
+figures_of watts fuels i = record { watts = at watts i; fuel = at fuels i }
+
+abbrev pub figures_by : (watts fuels : List ℕ) → List EngineFigures
+figures_by watts fuels = listed (max (length watts) (length fuels)) (figures_of watts fuels)
 
 unfoldable pub by_value : Call → ByValue
 by_value call =
@@ -93,8 +103,7 @@ by_value call =
       engines =
           record {
             count = length call.watts;
-            watts = padded most_engines call.watts;
-            fuel = padded most_engines call.fuels;
+            figures = filled no_figures most_engines (figures_by call.watts call.fuels);
             quiet = spans_by (quiet_of call.quiet);
           };
       deliveries =

@@ -3,6 +3,7 @@ pub mod Bounds
 pub mod ByValue
 pub mod Capacity
 pub mod Cutting
+pub mod Lookup
 pub mod Modes
 pub mod Numbers
 pub mod Plan

@@ -1,13 +1,13 @@
 -- The allocation on numbers (document 01, "Turned down", second part; document 02, K1): what is lent and asked, its refusal with its place, and,
 -- apart from that, when it is accepted.
 -- Assumes nothing.
-use Rattle.std.specs.Prelude.{◌≡◌, ℕ, suc, ◌+◌, ◌*◌, ◌%◌, Bool, ◌&&◌, length, leb, eqb}
+use Rattle.std.specs.Prelude.{◌≡◌, ℕ, suc, ◌+◌, ◌*◌, ◌%◌, Bool, ◌&&◌, length, leb, eqb, Result, Ok, Err}
 use mathlib.Core.List.{List, [], ◌∷◌, ◌++◌, zip_with}
 use Rattle.std.proofs.Math.Option.{Option, none, some}
-use Rattle.planning.specs.declared.Allocation.{Allocation}
-use Rattle.planning.specs.declared.Allocation.TheVariants.{Answered, Refused}
+use Rattle.planning.specs.declared.Answer.{Answer}
 use Rattle.planning.specs.declared.Fault.TheVariants.{Fields, Value, Count, NoEngine, Space, UnknownEngine, QuietSpan}
 use Rattle.planning.specs.declared.Mode.{Mode}
+use Rattle.planning.specs.declared.PlanLists.{PlanLists}
 use Rattle.planning.specs.declared.Refusal.{Refusal}
 use Rattle.planning.specs.Bounds.{most_engines, most_deliveries, most_minutes, most_tries, most_watts, most_fuel, most_energy, most_limit}
 use Rattle.planning.specs.Modes.{planned, answer_of, table_after, spares_after}
@@ -45,6 +45,11 @@ call_on mode minutes allowance watts fuels energies limits quiet table spare =
       table = table;
       spare = spare;
     }
+
+-- the call with the lists of a plan, which is lent those
+abbrev pub call_of : PlanLists → (table spare : List ℕ) → Call
+call_of lists table spare =
+    call_on lists.mode lists.minutes lists.allowance lists.watts.now lists.fuels.now lists.energies.now lists.limits.now lists.quiet.now table spare
 
 -- the spans of a list of "three numbers each (engine counted from 1, FROM, TO ..)"
 unfoldable pub quiet_of : List ℕ → List Quiet
@@ -131,11 +136,11 @@ pub record Accepted (call : Call) : Type 0 where
   pub spare : length call.spare ≡ length call.watts
 
 -- what the call returns, and what the lent table and spare list hold afterwards: "Each refusal .. changes nothing lent."
-unfoldable pub answered_by : Call → Option Refusal → Allocation
-answered_by call (some refusal) = Refused refusal
-answered_by call none = Answered (answer_of (planned (plan_of call)))
+unfoldable pub answered_by : Call → Option Refusal → Result Answer Refusal
+answered_by call (some refusal) = Err refusal
+answered_by call none = Ok (answer_of (planned (plan_of call)))
 
-unfoldable pub allocation : Call → Allocation
+unfoldable pub allocation : Call → Result Answer Refusal
 allocation call = answered_by call (refusal_of call)
 
 unfoldable pub unless_refused : Option Refusal → (lent written : List ℕ) → List ℕ

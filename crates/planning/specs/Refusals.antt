@@ -1,12 +1,10 @@
 -- Refusals (document 01, "Turned down"): the number of each fault, and checks in an order.
 -- Assumes nothing.
-use Rattle.std.specs.Prelude.{ℕ, ◌+◌, Bool, true, false, List, [], ◌∷◌}
+use Rattle.std.specs.Prelude.{ℕ, ◌+◌, Bool, true, false, List, [], ◌∷◌, Result, Ok, Err, ⊤}
 use Rattle.std.proofs.Math.Option.{Option, none, some}
 use Rattle.planning.specs.declared.Fault.{Fault}
 use Rattle.planning.specs.declared.Fault.TheVariants.{Size, Grammar, Fields, Kind, Name, Value, Count, NoEngine, Space, UnknownEngine, QuietSpan}
 use Rattle.planning.specs.declared.Refusal.{Refusal}
-use Rattle.planning.specs.declared.Verdict.{Verdict}
-use Rattle.planning.specs.declared.Verdict.TheVariants.{Accepted, Refused}
 
 -- the column "No." of the table, by its column "When"
 unfoldable pub fault_number : Fault → ℕ
@@ -50,6 +48,6 @@ check_each one r [] = none
 check_each one r (x ∷ xs) = one r x then check_each one (r + 1) xs
 
 -- what checks come to, as the code returns it
-unfoldable pub verdict_of : Option Refusal → Verdict
-verdict_of none = Accepted
-verdict_of (some refusal) = Refused refusal
+unfoldable pub verdict_of : Option Refusal → Result ⊤ Refusal
+verdict_of none = Ok tt
+verdict_of (some refusal) = Err refusal

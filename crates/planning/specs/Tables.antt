@@ -11,13 +11,16 @@ unfoldable pub listed : {A : Type 0} → (n : ℕ) → (ℕ → A) → List A
 listed zero f = []
 listed (suc n) f = f 0 ∷ listed n (λ i. f (suc i))
 
--- a list made n long with zeros
+-- a list made n long with some value, and with zeros
+abbrev pub filled : {A : Type 0} → (value : A) → (n : ℕ) → List A → List A
+filled value n xs = xs ++ replicate (n - length xs) value
+
 unfoldable pub padded : (n : ℕ) → List ℕ → List ℕ
 padded n xs = xs ++ replicate (n - length xs) 0
 
 -- "fills from the front what its plan has, and keeps the others": on numbers the lent list has the plan's own length, so all of it
 -- is written
-unfoldable pub over_front : (new lent : List ℕ) → List ℕ
+unfoldable pub over_front : {A : Type 0} → (new lent : List A) → List A
 over_front new lent = new ++ drop (length new) lent
 
 -- the cell of delivery p and engine i in a table with that many engines: "a row for each delivery"

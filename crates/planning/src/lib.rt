@@ -1,4 +1,4 @@
-// The types that the planner's answers and contracts speak of, the bounds, a fault's number, and what several crates do with numbers. Their
+// The types that the planner's answers and contracts speak of, the bounds, a fault's number, numbers copied, and the test of a quiet span. Their
 // meaning is given in specs/.
 #![tactic(auto)]
 
@@ -32,14 +32,14 @@ pub const MOST_ENERGY: u64 = 1000000000;
 pub const MOST_LIMIT: u64 = 12;
 
 // MODE of a plan: search the minutes it gives, or look for the shortest time.
-#[derive(Clone, Copy)]
+#[derive(Clone, Copy, Debug, PartialEq, Eq)]
 pub enum Mode {
     Fixed,
     Shortest,
 }
 
 // An answer is one of found, none and stopped ..
-#[derive(Clone, Copy)]
+#[derive(Clone, Copy, Debug, PartialEq, Eq)]
 pub enum Outcome {
     Found,
     None,
@@ -47,7 +47,7 @@ pub enum Outcome {
 }
 
 // .. carried with its minutes and tries.
-#[derive(Clone, Copy)]
+#[derive(Clone, Copy, Debug, PartialEq, Eq)]
 pub struct Answer {
     pub outcome: Outcome,
     pub minutes: u64,
@@ -55,7 +55,7 @@ pub struct Answer {
 }
 
 // Why a call is turned down: the rows 1 to 9 of document 01's table, in its order, then 10 and 11 of document 02.
-#[derive(Clone, Copy)]
+#[derive(Clone, Copy, Debug, PartialEq, Eq)]
 pub enum Fault {
     Size,
     Grammar,
@@ -70,40 +70,46 @@ pub enum Fault {
     QuietSpan,
 }
 
-// A refusal: the fault, and its place: the record at fault counted from 1, or 0.
-#[derive(Clone, Copy)]
+// A refusal: the fault, and its place: the record at fault counted from 1, or 0 where none is, as document 01 numbers it.
+#[derive(Clone, Copy, Debug, PartialEq, Eq)]
 pub struct Refusal {
     pub fault: Fault,
     pub place: u64,
 }
 
-// What checks come to: the first refusal, or none.
-#[derive(Clone, Copy)]
-pub enum Verdict {
-    Accepted,
-    Refused(Refusal),
+// A quiet span by value: the number of its engine, counted from 1, FROM and TO.
+#[derive(Clone, Copy, Debug, PartialEq, Eq)]
+pub struct QuietSpan {
+    pub engine: u16,
+    pub from: u16,
+    pub to: u16,
 }
 
-// The quiet spans of a plan's engines by value, in the order given: the number of each one's engine, counted from 1, FROM and TO. A column is
-// filled from the front and 0 behind the count.
+// The quiet spans of a plan's engines by value, in the order given: those counted stand at the front, zeros behind them. An array with a count,
+// as in the other parts of a plan, since a library takes nothing from the heap.
 #[derive(Clone, Copy)]
 pub struct Spans {
     pub count: usize,
-    pub engine: [u16; MOST_QUIET],
-    pub from: [u16; MOST_QUIET],
-    pub to: [u16; MOST_QUIET],
+    pub spans: [QuietSpan; MOST_QUIET],
 }
 
-// The engines of a plan by value: a column for each figure, and their quiet spans.
+// What an engine has of its own.
+#[derive(Clone, Copy, Debug, PartialEq, Eq)]
+pub struct EngineFigures {
+    pub watts: u32,
+    pub fuel: u32,
+}
+
+// The engines of a plan by value, alike, and their quiet spans.
 #[derive(Clone, Copy)]
 pub struct Engines {
     pub count: usize,
-    pub watts: [u32; MOST_ENGINES],
-    pub fuel: [u32; MOST_ENGINES],
+    pub figures: [EngineFigures; MOST_ENGINES],
     pub quiet: Spans,
 }
 
-// The deliveries of a plan by value, alike.
+// The deliveries of a plan by value: a column for each figure, filled from the front and 0 behind the count. They stay columns: the search takes
+// energies and limits as lists, and is lent `&energy[..count]` and `&limit[..count]` as they stand.
 #[derive(Clone, Copy)]
 pub struct Deliveries {
     pub count: usize,
@@ -121,62 +127,47 @@ pub struct Plan {
     pub deliveries: Deliveries,
 }
 
-// What the allocation on numbers returns.
+// A plan by its lists, as the allocation on numbers takes it: one number for each engine or delivery, and of quiet spans three numbers each.
 #[derive(Clone, Copy)]
-pub enum Allocation {
-    Answered(Answer),
-    Refused(Refusal),
-}
-
-// What the spare lookup returns: an engine that has the amount, counted from 0; that none has it; or a refusal.
-#[derive(Clone, Copy)]
-pub enum Lookup {
-    Engine(usize),
-    Nowhere,
-    Refused(Refusal),
+pub struct PlanLists<'a> {
+    pub mode: Mode,
+    pub minutes: u64,
+    pub allowance: u64,
+    pub watts: &'a [u64],
+    pub fuels: &'a [u64],
+    pub energies: &'a [u64],
+    pub limits: &'a [u64],
+    pub quiet: &'a [u64],
 }
 
 // The documents' number of a fault.
-#[tactic(auto, unfolding(crate::specs::Refusals::fault_number))]
-pub fn number_of(fault: Fault) -> u64
-    ensures { result ≡ fault_number fault }
-{
-    match fault {
-        Fault::Size => 1,
-        Fault::Grammar => 2,
-        Fault::Fields => 3,
-        Fault::Kind => 4,
-        Fault::Name => 5,
-        Fault::Value => 6,
-        Fault::Count => 7,
-        Fault::NoEngine => 8,
-        Fault::Space => 9,
-        Fault::UnknownEngine => 10,
-        Fault::QuietSpan => 11,
-    }
-}
+impl From<Fault> for u64 {
+    ghost from_gives = { λ fault number. number ≡ fault_number fault };
 
-// A number of 32 bits where 64 are asked for.
-pub fn wide(x: u32) -> u64
-    ensures { result ≡ x }
-{
-    x as u64
+    #[tactic(auto, unfolding(crate::specs::Refusals::fault_number))]
+    fn from(fault: Fault) -> u64 {
+        match fault {
+            Fault::Size => 1,
+            Fault::Grammar => 2,
+            Fault::Fields => 3,
+            Fault::Kind => 4,
+            Fault::Name => 5,
+            Fault::Value => 6,
+            Fault::Count => 7,
+            Fault::NoEngine => 8,
+            Fault::Space => 9,
+            Fault::UnknownEngine => 10,
+            Fault::QuietSpan => 11,
+        }
+    }
 }
 
 // Numbers copied to the front of a list, as many as it has room for.
 pub fn copy(numbers: &[u64], to: &mut [u64])
     ensures { to.new ≡ over_front (take (length to.old) numbers.now) to.old }
 {
-    let n = if numbers.len() < to.len() {
-        numbers.len()
-    } else {
-        to.len()
-    };
-    let mut i = 0;
-    while i < n {
-        to[i] = numbers[i];
-        i += 1;
-    }
+    let n = to.len().min(numbers.len());
+    to[..n].copy_from_slice(&numbers[..n]);
 }
 
 // Whether one of two spans ends before the other begins.
@@ -194,16 +185,15 @@ pub fn span_fits(quiet: &[u64], engine: u64, from: u64, to: u64) -> bool
     if to <= from {
         return false;
     }
+    let (spans, _) = quiet.as_chunks::<3>();
     let mut earlier = 0;
-    let mut at = 0;
-    while 2 < quiet.len() - at {
-        if quiet[at] == engine {
-            if !apart(from, to, quiet[at + 1], quiet[at + 2]) {
+    for [other, other_from, other_to] in spans {
+        if *other == engine {
+            if !apart(from, to, *other_from, *other_to) {
                 return false;
             }
             earlier += 1;
         }
-        at += 3;
     }
     earlier < MOST_SPANS
 }

@@ -1,48 +1,41 @@
--- What adding an engine or a delivery to columns comes to, in terms of the reading.
+-- What finding a name among items and adding one to their columns comes to, in terms of the reading.
 -- Assumes nothing.
-use Rattle.std.specs.Prelude.{◌≡◌, List, [], ◌++◌, ℕ, ◌+◌, ◌*◌, ◌^◌, ◌<◌, length, take, drop, set}
-use Rattle.planfile.specs.Bounds.{most_name_bytes}
+use Rattle.std.specs.Prelude.{◌≡◌, Option, Result, Ok, Err, List, [], ℕ, ◌+◌, ◌^◌, ◌<◌, nat_eq, position, set}
+use Rattle.std.specs.Cmp.Lexicographic.{pointwise}
+use Rattle.planning.specs.declared.Fault.{Fault}
 use Rattle.planfile.specs.Reading.{Read, accepted, fault, FourFields, Figures, read_item}
-use Rattle.planreader.specs.declared.items.Added.{Added}
-use Rattle.planreader.specs.declared.items.Added.TheVariants as added
-use Rattle.planreader.specs.declared.items.Item.{Item}
-use Rattle.planreader.specs.declared.items.Item.TheVariants as item
+use Rattle.planreader.specs.declared.items.Items.{Items}
 use Rattle.planreader.specs.declared.items.Rule.{Rule}
-use Rattle.planreader.specs.Columns.{Columns}
-use Rattle.planreader.specs.Plans.{name_list}
+use Rattle.planreader.specs.Plans.{names_in}
 
 -- numbers that leave room for a digit more in 64 bits
 pub record Ruled (rule : Rule) : Type 0 where
-  pub most : rule.most < 2 ^ 60
   pub high : rule.high < 2 ^ 60
   pub high2 : rule.high2 < 2 ^ 60
 
+-- the first place where a name stands among others
+abbrev pub place_among : (name : List ℕ) → (names : List (List ℕ)) → Option ℕ
+place_among name names = position (λ (other : List ℕ). pointwise nat_eq name other) names
+
 -- the reading of an item by a rule, and by three texts of its record
-abbrev pub read_by : Rule → (names : List (List ℕ)) → (r : ℕ) → FourFields → Read Figures
-read_by rule names r x = read_item rule.most rule.low rule.high rule.low2 rule.high2 names r x
+abbrev pub read_by : (most : ℕ) → Rule → (names : List (List ℕ)) → (r : ℕ) → FourFields → Read Figures
+read_by most rule names r x = read_item most rule.low rule.high rule.low2 rule.high2 names r x
 
 abbrev pub three_fields : (name third fourth : List ℕ) → FourFields
 three_fields name third fourth = record { first = []; second = name; third = third; fourth = fourth }
 
-unfoldable pub item_read : Item → (r : ℕ) → Read Figures
-item_read (item.Figures first second) r = accepted (record { first = first; second = second })
-item_read (item.Fault what) r = fault what r
-
--- the columns with an item stored at place n
-unfoldable pub with_item : (n : ℕ) → (name : List ℕ) → Figures → Columns → Columns
-with_item n name v c =
+-- the columns with an item stored behind the others
+unfoldable pub with_item : {most : ℕ} → (name : List ℕ) → Figures → Items most → Items most
+with_item name v c =
     record {
-      names = take (most_name_bytes * n) c.names ++ (name ++ drop (most_name_bytes * n + length name) c.names);
-      sizes = set c.sizes n (length name);
-      firsts = set c.firsts n v.first;
-      seconds = set c.seconds n v.second;
+      count = c.count + 1;
+      names = set c.names c.count name;
+      firsts = set c.firsts c.count v.first;
+      seconds = set c.seconds c.count v.second;
     }
 
--- an item is added behind the first n as the reading has it, or the reading has that fault
-unfoldable pub Adds : Rule → (n : ℕ) → FourFields → (before after : Columns) → Added → Type 0
-Adds rule n x before after (added.Item kind) =
-    (v : Figures)
-    × ((r : ℕ) → read_by rule (name_list n before.names before.sizes) r x ≡ accepted v)
-    × (kind ≡ rule.kind)
-    × (after ≡ with_item n x.second v before)
-Adds rule n x before after (added.Fault what) = (r : ℕ) → read_by rule (name_list n before.names before.sizes) r x ≡ fault what r
+-- an item is added as the reading has it, or the reading has that fault
+unfoldable pub Adds : {most : ℕ} → Rule → FourFields → (before after : Items most) → Result (Unit {0}) Fault → Type 0
+Adds {most} rule x before after (Ok done) =
+    (v : Figures) × ((r : ℕ) → read_by most rule (names_in before) r x ≡ accepted v) × (after ≡ with_item x.second v before)
+Adds {most} rule x before after (Err what) = (r : ℕ) → read_by most rule (names_in before) r x ≡ fault what r

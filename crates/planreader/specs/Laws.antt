@@ -1,5 +1,7 @@
 -- What is proved about the definitions beside this file.
 pub mod Parts
+pub mod Padding
+pub mod Exits
 pub mod Names
 pub mod Words
 pub mod Cuts

@@ -1,7 +1,7 @@
 -- The plan that a struct by value stands for, read off its columns, and that it is one to be planned and printed.
 -- Assumes nothing.
-use Rattle.std.specs.Prelude.{◌≡◌, List, ℕ, ◌*◌, ◌≤◌, ◌<◌, length, take, drop}
-use Rattle.planning.specs.Bounds.{most_engines, most_quiet, most_deliveries}
+use Rattle.std.specs.Prelude.{◌≡◌, List, [], ℕ, ◌*◌, ◌≤◌, length, take, get_or}
+use Rattle.planning.specs.Bounds.{most_quiet}
 use Rattle.planning.specs.Numbers.{quiet_of}
 use Rattle.planning.specs.Plan.{All, Within, QuietInRange, InRange}
 use Rattle.planning.specs.Quiet.{Quiet, spans_of}
@@ -10,33 +10,23 @@ use Rattle.planfile.specs.Bounds.{most_name_bytes}
 use Rattle.planfile.specs.FilePlan.{FilePlan, engine_of, delivery_of, engine_names, delivery_names, unnamed}
 use Rattle.planfile.specs.Holding.{SoundName, Unlike}
 use Rattle.planreader.specs.declared.FilePlan.{FilePlan as ByValue}
-use Rattle.planreader.specs.Columns.{Columns}
+use Rattle.planreader.specs.declared.items.Items.{Items}
 
--- the name at place k of a list that has 16 bytes for each, of which so many count as the sizes say, and the first n names
-unfoldable pub name_at : (names sizes : List ℕ) → (k : ℕ) → List ℕ
-name_at names sizes k = take (at sizes k) (drop (most_name_bytes * k) names)
+-- the names of items in columns
+abbrev pub names_in : {most : ℕ} → Items most → List (List ℕ)
+names_in c = take c.count c.names
 
-unfoldable pub name_list : (n : ℕ) → (names sizes : List ℕ) → List (List ℕ)
-name_list n names sizes = listed n (λ k. name_at names sizes k)
+-- the items, made of their names and numbers
+unfoldable pub items_in : {A : Type 0} {most : ℕ} → (make : List ℕ → ℕ → ℕ → A) → Items most → List A
+items_in make c = listed c.count (λ k. make (get_or c.names k []) (at c.firsts k) (at c.seconds k))
 
--- a list with places for n names
-pub record NamesHeld (n : ℕ) (names sizes : List ℕ) : Type 0 where
-  pub room : most_name_bytes * n ≤ length names
-  pub sized : n ≤ length sizes
-  pub short : (k : ℕ) → k < n → at sizes k ≤ most_name_bytes
-
--- the first n items of columns, made of their names and numbers
-unfoldable pub items_in : {A : Type 0} → (make : List ℕ → ℕ → ℕ → A) → (n : ℕ) → Columns → List A
-items_in make n c = listed n (λ k. make (name_at c.names c.sizes k) (at c.firsts k) (at c.seconds k))
-
--- columns with places for the most items, of which the first n are filled
-pub record Holding (n most : ℕ) (c : Columns) : Type 0 where
-  pub room : n ≤ most
-  pub names : length c.names ≡ most_name_bytes * most
-  pub sizes : length c.sizes ≡ most
+-- whole columns, of which so many places are filled
+pub record Holding {most : ℕ} (c : Items most) : Type 0 where
+  pub room : c.count ≤ most
+  pub names : length c.names ≡ most
   pub firsts : length c.firsts ≡ most
   pub seconds : length c.seconds ≡ most
-  pub short : (k : ℕ) → k < n → at c.sizes k ≤ most_name_bytes
+  pub short : All (λ (name : List ℕ). length name ≤ most_name_bytes) (names_in c)
 
 -- the first n quiet spans of a column that has three numbers for each
 abbrev pub quiet_in : (n : ℕ) → (column : List ℕ) → List Quiet
@@ -49,29 +39,23 @@ pub record QuietHeld (engines n : ℕ) (column : List ℕ) : Type 0 where
   pub known : All (λ (q : Quiet). Within 1 engines q.engine) (quiet_in n column)
   pub ranges : (i : ℕ) → QuietInRange (spans_of i (quiet_in n column))
 
--- the columns of a plan by value, and the plan
-abbrev pub engine_columns : ByValue → Columns
-engine_columns p = record { names = p.engine_names; sizes = p.engine_sizes; firsts = p.watts; seconds = p.fuels }
-
-abbrev pub delivery_columns : ByValue → Columns
-delivery_columns p = record { names = p.delivery_names; sizes = p.delivery_sizes; firsts = p.energies; seconds = p.limits }
-
+-- the plan
 abbrev pub plan_by : ByValue → FilePlan
 plan_by p =
     record {
       mode = p.mode;
       minutes = p.minutes;
       allowance = p.allowance;
-      engines = items_in engine_of p.engines (engine_columns p);
+      engines = items_in engine_of p.engines;
       quiet = quiet_in p.spans p.quiet;
-      deliveries = items_in delivery_of p.deliveries (delivery_columns p);
+      deliveries = items_in delivery_of p.deliveries;
     }
 
 -- a plan by value whose columns are whole and whose plan is in range, its names sound, each used once
 pub record UsablePlan (p : ByValue) : Type 0 where
-  pub engines : Holding p.engines most_engines (engine_columns p)
-  pub quiet : QuietHeld p.engines p.spans p.quiet
-  pub deliveries : Holding p.deliveries most_deliveries (delivery_columns p)
+  pub engines : Holding p.engines
+  pub quiet : QuietHeld p.engines.count p.spans p.quiet
+  pub deliveries : Holding p.deliveries
   pub in_range : InRange (unnamed (plan_by p))
   pub engines_named : All SoundName (engine_names (plan_by p))
   pub deliveries_named : All SoundName (delivery_names (plan_by p))

@@ -1,37 +1,48 @@
--- What reading a quiet span and adding it to a column comes to, in terms of the reading.
+-- What reading a quiet span and adding it to a plan by value comes to, in terms of the reading.
 -- Assumes nothing.
-use Rattle.std.specs.Prelude.{◌≡◌, List, ℕ, ◌+◌, ◌*◌, set}
+use Rattle.std.specs.Prelude.{◌≡◌, Result, Ok, Err, List, ℕ, ◌+◌, ◌*◌, length, set}
 use Rattle.std.proofs.Math.Option.{none}
+use Rattle.planning.specs.declared.Fault.{Fault}
 use Rattle.planning.specs.Numbers.{quiet_fault}
 use Rattle.planning.specs.Quiet.{Quiet}
 use Rattle.planfile.specs.FilePlan.{FilePlan, engine_names, with_quiet}
 use Rattle.planfile.specs.Reading.{Read, accepted, fault, FourFields, read_quiet}
-use Rattle.planreader.specs.declared.items.Added.{Added}
-use Rattle.planreader.specs.declared.items.Added.TheVariants as added
-use Rattle.planreader.specs.declared.items.Kind.TheVariants as kind
+use Rattle.planreader.specs.declared.FilePlan.{FilePlan as ByValue}
 use Rattle.planreader.specs.declared.quiet.Span.{Span}
-use Rattle.planreader.specs.declared.quiet.Span.TheVariants as span
-use Rattle.planreader.specs.Plans.{name_list, quiet_in}
+use Rattle.planreader.specs.Plans.{names_in, quiet_in}
+
+-- a span that was read, as one of the plan
+abbrev pub quiet_by : Span → Quiet
+quiet_by s = record { engine = s.engine; span = record { from = s.from; to = s.to } }
 
 -- how a quiet record is read behind engines of these names and these spans, whatever else the plan so far has
 abbrev pub QuietReads : (names : List (List ℕ)) → List Quiet → FourFields → (FilePlan → (r : ℕ) → Read FilePlan) → Type 0
 QuietReads names quiet x how = (f : FilePlan) → engine_names f ≡ names → f.quiet ≡ quiet → (r : ℕ) → read_quiet f r x ≡ how f r
 
--- behind the first engines of columns and behind these spans the record adds a span that no check refuses there, or has that fault
-unfoldable pub SpanRead : (engines : ℕ) → (names sizes : List ℕ) → List Quiet → FourFields → Span → Type 0
-SpanRead engines names sizes quiet x (span.Quiet engine from to) =
-    let q : Quiet = record { engine = engine; span = record { from = from; to = to } } in
-    (quiet_fault engines quiet q ≡ none) × QuietReads (name_list engines names sizes) quiet x (λ f r. accepted (with_quiet f q))
-SpanRead engines names sizes quiet x (span.Fault what) = QuietReads (name_list engines names sizes) quiet x (λ f r. fault what r)
+-- behind engines of these names and these spans the record adds a span that no check refuses there, or has that fault
+unfoldable pub SpanRead : (names : List (List ℕ)) → List Quiet → FourFields → Result Span Fault → Type 0
+SpanRead names quiet x (Ok s) =
+    (quiet_fault (length names) quiet (quiet_by s) ≡ none) × QuietReads names quiet x (λ f r. accepted (with_quiet f (quiet_by s)))
+SpanRead names quiet x (Err what) = QuietReads names quiet x (λ f r. fault what r)
 
--- the column with a span stored behind the first n
-unfoldable pub with_span : (n : ℕ) → Quiet → (column : List ℕ) → List ℕ
-with_span n q column = set (set (set column (3 * n) q.engine) (3 * n + 1) q.span.from) (3 * n + 2) q.span.to
+-- the column with a span stored behind the first n, and the plan by value with it
+unfoldable pub with_span : (n : ℕ) → Span → (column : List ℕ) → List ℕ
+with_span n s column = set (set (set column (3 * n) s.engine) (3 * n + 1) s.from) (3 * n + 2) s.to
 
--- a span is added behind the first n as the reading has it, or the reading has that fault
-unfoldable pub AddsQuiet : (engines : ℕ) → (names sizes : List ℕ) → (n : ℕ) → FourFields → (before after : List ℕ) → Added → Type 0
-unfolding SpanRead
-AddsQuiet engines names sizes n x before after (added.Item one) =
-    (q : Quiet) × (one ≡ kind.Quiet) × SpanRead engines names sizes (quiet_in n before) x (span.Quiet q.engine q.span.from q.span.to)
-    × (after ≡ with_span n q before)
-AddsQuiet engines names sizes n x before after (added.Fault what) = SpanRead engines names sizes (quiet_in n before) x (span.Fault what)
+unfoldable pub plan_with_span : Span → ByValue → ByValue
+plan_with_span s p =
+    record {
+      mode = p.mode;
+      minutes = p.minutes;
+      allowance = p.allowance;
+      engines = p.engines;
+      spans = p.spans + 1;
+      quiet = with_span p.spans s p.quiet;
+      deliveries = p.deliveries;
+    }
+
+-- a span is added as the reading has it, or the reading has that fault
+unfoldable pub AddsQuiet : FourFields → (before after : ByValue) → Result (Unit {0}) Fault → Type 0
+AddsQuiet x before after (Ok done) =
+    (s : Span) × SpanRead (names_in before.engines) (quiet_in before.spans before.quiet) x (Ok s) × (after ≡ plan_with_span s before)
+AddsQuiet x before after (Err what) = SpanRead (names_in before.engines) (quiet_in before.spans before.quiet) x (Err what)

@@ -1,108 +1,106 @@
 // A record of a file cut into its fields.
-ghost use Rattle.std.specs.Prelude.{◌≡◌, List, [], ℕ, ◌≤◌, ◌<◌, length, get_or};
-ghost use Rattle.std.proofs.Math.Option.{some};
-ghost use Rattle.rfc4180.specs.Fields.{raw_fields, field_value};
-ghost use Rattle.csv_fields.specs.Spans.{inside_of};
-ghost use Rattle.planfile.specs.Bounds.{most_name_bytes};
-ghost use Rattle.planreader.specs.Parts.{IsCut, CutAt, NameFor};
+ghost use Rattle.planreader.specs.Fields.{IsCut};
 
-use csv_fields::Undone;
-
-// The fields of a record: whether it keeps RFC 4180 and, where it does, how many there are (5 for more than four), where the first four
-// stand in its text and which of them hold a doubled quote, where the text ends in the file, and where the next record begins.
+// Where a field stands in its record's text, and whether it holds a doubled quote.
 #[derive(Clone, Copy)]
-pub(crate) struct Fields {
-    pub sound: bool,
+pub(crate) struct FieldPlace {
+    pub start: usize,
+    pub end: usize,
+    pub doubled: bool,
+}
+
+// A record that keeps RFC 4180, cut into its fields: its text in the file, how many fields it has (5 for more than four), and where the first
+// four stand.
+#[derive(Clone, Copy)]
+pub(crate) struct Entry<'a> {
+    pub text: &'a [u8],
     pub count: usize,
-    pub start: [usize; 4],
-    pub end: [usize; 4],
-    pub doubled: [bool; 4],
-    pub stop: usize,
-    pub next: usize,
+    pub places: [FieldPlace; 4],
+    ghost cut: { IsCut text.now count places },
 }
 
-// Cuts the record that begins at a place of a file. It ends at the first field that breaks the grammar: what follows cannot mend it.
-pub(crate) fn cut(file: &[u8], from: usize) -> Fields
-    requires { from ≤ length file.now }
-    ensures { CutAt file.now from result }
-{
-    let mut start = [0usize; 4];
-    let mut end = [0usize; 4];
-    let mut doubled = [false; 4];
-    let mut count = 0;
-    let mut at = from;
-    let mut stop = from;
-    let mut more = true;
-    while more {
-        let read = csv_fields::field_read(file, at);
-        if !read.sound {
-            return Fields {
-                sound: false,
-                count: 0,
-                start: [0; 4],
-                end: [0; 4],
-                doubled: [false; 4],
-                stop: 0,
-                next: 0,
-            };
+impl<'a> Entry<'a> {
+    ghost use Rattle.std.specs.Prelude.{◌≡◌, List, [], ℕ, ◌≤◌, ◌<◌, length, get_or};
+    ghost use Rattle.std.proofs.Math.Option.{some};
+    ghost use Rattle.rfc4180.specs.Fields.{raw_fields, field_value};
+    ghost use Rattle.csv_fields.specs.Spans.{inside_of};
+    ghost use Rattle.planfile.specs.Bounds.{most_name_bytes};
+    ghost use Rattle.planreader.specs.Parts.{CutAt};
+    ghost use Rattle.planreader.specs.Fields.{NameFor};
+
+    // Cuts the record that begins at a place of a file; behind it stands where the next one begins. There is none at the first field that breaks
+    // the grammar: what follows cannot mend it.
+    pub(crate) fn cut(file: &'a [u8], from: usize) -> Option<(Entry<'a>, usize)>
+        requires { from ≤ length file.now }
+        ensures { CutAt file.now from result }
+    {
+        let nowhere = FieldPlace {
+            start: 0,
+            end: 0,
+            doubled: false,
+        };
+        let mut places = [nowhere; 4];
+        let mut count = 0;
+        let mut at = from;
+        loop {
+            let read = csv_fields::field_read(file, at)?;
+            if count < 4 {
+                places[count] = FieldPlace {
+                    start: at - from,
+                    end: read.end - from,
+                    doubled: read.doubled,
+                };
+            }
+            if count < 5 {
+                count += 1;
+            }
+            if read.more {
+                at = read.next;
+            } else {
+                let entry = Entry {
+                    text: &file[from..read.end],
+                    count,
+                    places,
+                };
+                return Some((entry, read.next));
+            }
         }
-        stop = read.end;
-        if count < 4 {
-            start[count] = at - from;
-            end[count] = stop - from;
-            doubled[count] = read.doubled;
+    }
+
+    // The field at place j of a record that has four, with its quotes.
+    fn raw(&self, j: usize) -> &'a [u8]
+        requires { (self.now.count ≡ 4) × (j < 4) }
+        ensures { result.now ≡ get_or (raw_fields self.now.text.now) j [] }
+    {
+        let place = self.places[j];
+        &self.text[place.start..place.end]
+    }
+
+    // The field at place j of a record that has four: that part of the file. Where it holds no doubled quote this is its value; where it does, it
+    // holds a quote, as no word and no number does.
+    pub(crate) fn part(&self, j: usize) -> &'a [u8]
+        requires { (self.now.count ≡ 4) × (j < 4) }
+        ensures { result.now ≡ inside_of (get_or (raw_fields self.now.text.now) j []) }
+    {
+        csv_fields::part_of(self.raw(j))
+    }
+
+    // The name that stands second in a record that has four: that part of the file, or, where a quote is doubled in it, its value undone into the
+    // buffer. What does not fit there is longer than any name, and so is the part then.
+    pub(crate) fn name<'b>(&self, buffer: &'b mut [u8]) -> &'b [u8]
+    where
+        'a: 'b,
+        requires { (self.now.count ≡ 4) × (length buffer.old ≡ most_name_bytes) }
+        ensures { (value : List ℕ) → field_value (get_or (raw_fields self.now.text.now) 1 []) ≡ some value → NameFor value result.now }
+    {
+        let field = self.raw(1);
+        let inside = csv_fields::part_of(field);
+        if !self.places[1].doubled {
+            return inside;
         }
-        if count < 5 {
-            count += 1;
+        match csv_fields::undo(field, buffer) {
+            Ok(n) => &buffer[..n],
+            Err(_) => inside,
         }
-        at = read.next;
-        more = read.more;
     }
-    Fields {
-        sound: true,
-        count,
-        start,
-        end,
-        doubled,
-        stop,
-        next: at,
-    }
-}
-
-// The field at place j of a record that has four, with its quotes.
-fn raw(text: &[u8], fields: Fields, j: usize) -> &[u8]
-    requires { IsCut text.now fields × (fields.count ≡ 4) × (j < 4) }
-    ensures { result.now ≡ get_or (raw_fields text.now) j [] }
-{
-    let from = fields.start[j];
-    let stop = fields.end[j];
-    &text[from..stop]
-}
-
-// The field at place j of a record that has four: that part of the file. Where it holds no doubled quote this is its value; where it does, it
-// holds a quote, as no word and no number does.
-pub(crate) fn part(text: &[u8], fields: Fields, j: usize) -> &[u8]
-    requires { IsCut text.now fields × (fields.count ≡ 4) × (j < 4) }
-    ensures { result.now ≡ inside_of (get_or (raw_fields text.now) j []) }
-{
-    csv_fields::part_of(raw(text, fields, j))
-}
-
-// The name that stands second in a record that has four: that part of the file, or, where a quote is doubled in it, its value undone into the
-// buffer. What does not fit there is longer than any name, and so is the part then.
-pub(crate) fn name<'a>(text: &'a [u8], fields: Fields, buffer: &'a mut [u8]) -> &'a [u8]
-    requires { IsCut text.now fields × (fields.count ≡ 4) × (length buffer.old ≡ most_name_bytes) }
-    ensures { (value : List ℕ) → field_value (get_or (raw_fields text.now) 1 []) ≡ some value → NameFor value result.now }
-{
-    let field = raw(text, fields, 1);
-    let inside = csv_fields::part_of(field);
-    if !fields.doubled[1] {
-        return inside;
-    }
-    let undone = csv_fields::undo(field, &mut *buffer);
-    if let Undone::Length(n) = undone {
-        let whole = &buffer[..];
-        return &whole[..n];
-    }
-    inside
 }

@@ -1,66 +1,74 @@
-// Names: whether one is sound, and lists of them in 16 bytes each, of which the first so many count.
-ghost use Rattle.std.specs.Prelude.{◌≡◌, ◌++◌, ◌+◌, ◌*◌, ◌≤◌, ◌<◌, length, take, drop};
-ghost use Rattle.planfile.specs.Bounds.{most_name_bytes};
-ghost use Rattle.planfile.specs.Reading.{sound_name, place_of};
-ghost use Rattle.planreader.specs.Plans.{name_at, name_list, NamesHeld};
+// Names: whether one is sound, and one by value.
+ghost use Rattle.std.specs.Prelude.{◌≡◌, ℕ, ◌≤◌, leb, ◌&&◌, length};
+ghost use Rattle.std.specs.List.{list_all};
+ghost use Rattle.planfile.specs.Bounds.{most_name_bytes, least_name_byte, most_name_byte};
+ghost use Rattle.planfile.specs.Reading.{sound_name};
 
-use crate::texts;
 use planfile::{LEAST_NAME_BYTE, MOST_NAME_BYTE, MOST_NAME_BYTES};
+use std::marker::Model;
+
+// A name by value: the list of its bytes, which is no longer than a name may be.
+#[derive(Clone, Copy)]
+pub struct Name {
+    bytes: [u8; MOST_NAME_BYTES],
+    size: u8,
+}
+
+impl Model for Name {
+    ghost use Rattle.std.specs.Prelude.{◌≡◌, ◌≤◌, ℕ, List, length, take};
+    ghost use Rattle.std.proofs.Common.{sym, ap₂};
+    ghost use Rattle.planning.specs.Tables.{padded};
+    ghost use Rattle.planfile.specs.Bounds.{most_name_bytes};
+    ghost use Rattle.planreader.specs.Laws.Padding.{front-size};
+
+    ghost Value = { List ℕ };
+
+    ghost view = { λ n. take n.size n.bytes };
+
+    // so many bytes count, and 0 stands behind them
+    ghost invariant = { λ n. (n.size ≤ most_name_bytes) × (n.bytes ≡ padded most_name_bytes (take n.size n.bytes)) };
+
+    ghost inverse = { λ v. record { bytes = padded most_name_bytes v; size = length v } };
+
+    ghost inverse_ok = { λ n h.
+        ap₂ (λ (bytes : List ℕ) (size : ℕ). record { bytes = bytes; size = size })
+        (sym h.1) (front-size most_name_bytes n.size n.bytes h.0 h.1) };
+}
+
+impl Name {
+    // A name of those bytes.
+    pub(crate) fn of(text: &[u8]) -> Name
+        requires { length text.now ≤ most_name_bytes }
+        ensures { result ≡ text.now }
+    {
+        let mut bytes = [0u8; MOST_NAME_BYTES];
+        bytes[..text.len()].copy_from_slice(text);
+        Name {
+            bytes,
+            size: text.len() as u8,
+        }
+    }
+
+    // Its bytes.
+    pub fn bytes(&self) -> &[u8]
+        ensures value { result.now ≡ self.now }
+        ensures short { length self.now ≤ most_name_bytes }
+    {
+        &self.bytes[..self.size as usize]
+    }
+}
+
+// Whether each byte is hex 20 to 7E.
+fn has_name_bytes(name: &[u8]) -> bool
+    ensures { result ≡ list_all (λ (b : ℕ). leb least_name_byte b && leb b most_name_byte) name.now }
+{
+    name.iter()
+        .all(|b| (LEAST_NAME_BYTE..=MOST_NAME_BYTE).contains(b))
+}
 
 // Whether a name has 1 to 16 bytes, each hex 20 to 7E.
 pub(crate) fn is_sound(name: &[u8]) -> bool
     ensures { result ≡ sound_name name.now }
 {
-    if name.len() == 0 || MOST_NAME_BYTES < name.len() {
-        return false;
-    }
-    let mut i = 0;
-    while i < name.len() {
-        let b = name[i];
-        if b < LEAST_NAME_BYTE || MOST_NAME_BYTE < b {
-            return false;
-        }
-        i += 1;
-    }
-    true
-}
-
-// The name at place k of a list.
-fn name_at<'a>(names: &'a [u8], sizes: &[u8], k: usize) -> &'a [u8]
-    requires { NamesHeld (k + 1) names.now sizes.now }
-    ensures { result.now ≡ name_at names.now sizes.now k }
-{
-    let from = MOST_NAME_BYTES * k;
-    let end = from + sizes[k] as usize;
-    &names[from..end]
-}
-
-// The place of a name among the first n: of the first that is it, or n.
-pub(crate) fn find(name: &[u8], n: usize, names: &[u8], sizes: &[u8]) -> usize
-    requires { NamesHeld n names.now sizes.now }
-    ensures { result ≡ place_of name.now (name_list n names.now sizes.now) }
-{
-    let mut k = 0;
-    while k < n {
-        if texts::equal(name, name_at(names, sizes, k)) {
-            return k;
-        }
-        k += 1;
-    }
-    n
-}
-
-// Puts a name at place k.
-pub(crate) fn store(names: &mut [u8], k: usize, name: &[u8])
-    requires { most_name_bytes * k + length name.now ≤ length names.old }
-    ensures { names.new
-        ≡ take (most_name_bytes * k) names.old
-        ++ (name.now ++ drop (most_name_bytes * k + length name.now) names.old) }
-{
-    let from = MOST_NAME_BYTES * k;
-    let mut i = 0;
-    while i < name.len() {
-        names[from + i] = name[i];
-        i += 1;
-    }
+    (1..=MOST_NAME_BYTES).contains(&name.len()) && has_name_bytes(name)
 }

@@ -2,96 +2,71 @@
 ghost use Rattle.std.specs.Prelude.{◌≡◌};
 ghost use Rattle.planfile.specs.Reading.{read_mode};
 ghost use Rattle.planreader.specs.Opening.{mode_read, opening_read, read_opening, BeginsBy};
-ghost use Rattle.planreader.specs.Parts.{IsCut};
 
-use crate::entry::Fields;
-use crate::numeral::Ranged;
-use crate::{entry, numeral, texts};
+use crate::entry::Entry;
+use crate::numeral;
 use planfile::MOST_BYTES;
 use planning::{Fault, MOST_MINUTES, MOST_TRIES, Mode, Refusal};
 
-// A mode by its word, or a fault.
-#[derive(Drop)]
-pub(crate) enum ModeField {
-    Known(Mode),
-    Fault,
+// The values of record 1.
+#[derive(Clone, Copy)]
+pub(crate) struct Opening {
+    pub mode: Mode,
+    pub minutes: u64,
+    pub allowance: u64,
 }
 
-// The values of record 1, or a fault.
-#[derive(Drop)]
-pub(crate) enum Opening {
-    Plan(Mode, u64, u64),
-    Fault(Fault),
-}
-
-fn mode_of(text: &[u8]) -> ModeField
+// A mode by its word.
+fn mode_of(text: &[u8]) -> Option<Mode>
     ensures { mode_read result ≡ read_mode 1 text.now }
 {
-    if texts::equal(text, b"fixed") {
-        return ModeField::Known(Mode::Fixed);
+    if text == b"fixed".as_slice() {
+        Some(Mode::Fixed)
+    } else if text == b"shortest".as_slice() {
+        Some(Mode::Shortest)
+    } else {
+        None
     }
-    if texts::equal(text, b"shortest") {
-        return ModeField::Known(Mode::Shortest);
-    }
-    ModeField::Fault
 }
 
 // Reads record 1, which keeps RFC 4180: 3 and 4, then its fields from the left.
-fn read(text: &[u8], fields: Fields) -> Opening
-    requires { IsCut text.now fields }
-    ensures { opening_read result ≡ read_opening text.now }
+fn read(entry: &Entry<'_>) -> Result<Opening, Fault>
+    ensures { opening_read result ≡ read_opening entry.now.text.now }
 {
-    if fields.count != 4 {
-        return Opening::Fault(Fault::Fields);
+    if entry.count != 4 {
+        return Err(Fault::Fields);
     }
-    if !texts::equal(entry::part(text, fields, 0), b"plan") {
-        return Opening::Fault(Fault::Kind);
+    if entry.part(0) != b"plan".as_slice() {
+        return Err(Fault::Kind);
     }
-    let word = mode_of(entry::part(text, fields, 1));
-    let ModeField::Known(mode) = word else {
-        return Opening::Fault(Fault::Value);
-    };
-    let third = numeral::in_range(entry::part(text, fields, 2), 1, MOST_MINUTES);
-    let Ranged::Value(minutes) = third else {
-        return Opening::Fault(Fault::Value);
-    };
-    let fourth = numeral::in_range(entry::part(text, fields, 3), 0, MOST_TRIES);
-    let Ranged::Value(allowance) = fourth else {
-        return Opening::Fault(Fault::Value);
-    };
-    Opening::Plan(mode, minutes, allowance)
+    let mode = mode_of(entry.part(1)).ok_or(Fault::Value)?;
+    let minutes = numeral::in_range(entry.part(2), 1, MOST_MINUTES).ok_or(Fault::Value)?;
+    let allowance = numeral::in_range(entry.part(3), 0, MOST_TRIES).ok_or(Fault::Value)?;
+    Ok(Opening {
+        mode,
+        minutes,
+        allowance,
+    })
 }
 
-// How a file begins: the values of record 1 and where record 2 begins, or a refusal.
-#[derive(Drop)]
-pub(crate) enum Beginning {
-    Plan(Mode, u64, u64, usize),
-    Refused(Refusal),
-}
-
-// Reads the beginning of a file: 1, then record 1.
-pub(crate) fn begin(file: &[u8]) -> Beginning
+// Reads the beginning of a file: 1, then record 1. Behind its values stands where record 2 begins.
+pub(crate) fn begin(file: &[u8]) -> Result<(Opening, usize), Refusal>
     ensures { BeginsBy file.now result }
 {
-    if file.len() == 0 || MOST_BYTES < file.len() {
-        return Beginning::Refused(Refusal {
+    if !(1..=MOST_BYTES).contains(&file.len()) {
+        return Err(Refusal {
             fault: Fault::Size,
             place: 0,
         });
     }
-    let fields = entry::cut(file, 0);
-    if !fields.sound {
-        return Beginning::Refused(Refusal {
+    let Some((entry, next)) = Entry::cut(file, 0) else {
+        return Err(Refusal {
             fault: Fault::Grammar,
             place: 1,
         });
-    }
-    let stop = fields.stop;
-    let opening = read(&file[..stop], fields);
-    match opening {
-        Opening::Fault(fault) => Beginning::Refused(Refusal { fault, place: 1 }),
-        Opening::Plan(mode, minutes, allowance) => {
-            Beginning::Plan(mode, minutes, allowance, fields.next)
-        }
+    };
+    match read(&entry) {
+        Ok(opening) => Ok((opening, next)),
+        Err(fault) => Err(Refusal { fault, place: 1 }),
     }
 }

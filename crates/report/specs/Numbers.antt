@@ -1,6 +1,6 @@
 -- Lists of numbers as the test programs print them, and compared with one number.
 -- Assumes nothing.
-use Rattle.std.specs.Prelude.{Bool, false, cond, List, [], ◌∷◌, ◌++◌, ℕ, suc, eqb, leb}
+use Rattle.std.specs.Prelude.{Bool, false, cond, List, [], ◌∷◌, ◌++◌, ℕ, suc, not, ◌==◌, eqb, leb, count_by}
 use Rattle.rfc4180.specs.Text.{ascii}
 use Rattle.lines.specs.Putting.{Text, plain, number}
 
@@ -25,6 +25,5 @@ unfoldable pub number_texts : (list : List ℕ) → List Text
 number_texts list = texts_behind 0 list
 
 -- how many numbers of a list are other than one
-unfoldable pub other_count : (n : ℕ) → (list : List ℕ) → ℕ
-other_count n [] = 0
-other_count n (m ∷ list) = cond (eqb m n) (other_count n list) (suc (other_count n list))
+abbrev pub other_count : (n : ℕ) → (list : List ℕ) → ℕ
+other_count n list = count_by (λ m. not (m == n)) list

@@ -1,6 +1,6 @@
 -- Words with numbers among them.
 -- Assumes nothing.
-use Rattle.std.specs.Prelude.{Bool, cond, ◌&&◌, List, [], ◌∷◌, ℕ, eqb, ltb}
+use Rattle.std.specs.Prelude.{cond, List, [], ◌∷◌, ℕ, eqb}
 use Rattle.lines.specs.Putting.{Text, plain, number}
 
 -- the byte that stands for a number
@@ -13,7 +13,3 @@ word_texts [] numbers = []
 word_texts (b ∷ words) [] = plain (b ∷ []) ∷ word_texts words []
 word_texts (b ∷ words) (n ∷ numbers) =
     cond (eqb b number_sign) (number n ∷ word_texts words numbers) (plain (b ∷ []) ∷ word_texts words (n ∷ numbers))
-
--- whether a byte stands for a number, and one is left of so many
-unfoldable pub takes_number : (b used count : ℕ) → Bool
-takes_number b used count = eqb b number_sign && ltb used count

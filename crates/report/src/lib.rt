@@ -1,14 +1,20 @@
-// What the test programs read and print by: numbers of their input, and numbers and bytes of their print put into a page.
+// What the test programs read and print by: standard input read whole, its numbers, what they print put into a page, and a page written.
 #![tactic(auto)]
 
+mod answers;
 mod input;
 mod numbers;
 mod page;
 mod pages;
+mod scanner;
 mod shown;
+mod streams;
 mod words;
 
+pub use answers::{answer_page, mode_name, refusal_page};
 pub use input::{Token, number};
 pub use numbers::others;
 pub use page::{PAGE_BYTES, Page, written};
 pub use pages::{list_page, shown_page, words_page};
+pub use scanner::Scanner;
+pub use streams::{print, read_full};

@@ -2,27 +2,25 @@
 ghost use Rattle.std.specs.Prelude.{◌≡◌};
 ghost use Rattle.report.specs.Page.{page_text};
 
-use lines::Wrote;
+use lines::WriteError;
 
 // Longer than any text that the test programs print at once.
 pub const PAGE_BYTES: usize = 16384;
 
-// A page with its texts, and how far it is written.
+// A page with its texts, and the place behind them, or why one was left out. An array: a test must not end for lack of memory.
 #[derive(Clone, Copy)]
 pub struct Page {
     pub bytes: [u8; PAGE_BYTES],
-    pub next: Wrote,
+    pub next: Result<usize, WriteError>,
 }
 
 // What of a page is to be written: all that was put there, or nothing where a text was left out.
-pub fn written(page: &[u8], to: Wrote) -> &[u8]
-    ensures { result.now ≡ page_text to page.now }
+#[tactic(auto, unfolding(crate::specs::Page::page_text))]
+pub fn written(page: &[u8], next: Result<usize, WriteError>) -> &[u8]
+    ensures { result.now ≡ page_text next page.now }
 {
-    let Wrote::Next(end) = to else {
-        return &page[..0];
-    };
-    if page.len() < end {
-        return &page[..0];
+    match next {
+        Ok(end) if end <= page.len() => &page[..end],
+        _ => &page[..0],
     }
-    &page[..end]
 }

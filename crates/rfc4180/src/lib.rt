@@ -6,7 +6,7 @@ ghost use Rattle.std.specs.Prelude.{◌≡◌};
 ghost use Rattle.rfc4180.specs.Bytes.{class_of};
 
 // What a byte is in the grammar of RFC 4180: its terminals, and Refused for a byte that stands nowhere in a file.
-#[derive(Clone, Copy)]
+#[derive(Clone, Copy, Debug, PartialEq, Eq)]
 pub enum ByteClass {
     Text,
     Quote,

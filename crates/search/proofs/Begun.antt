@@ -1,28 +1,28 @@
--- A delivery that is left and begun has the slot that is found for it, and its place in the arrays.
+-- A delivery that is left and begun has its place in the arrays, and its slot's rest and engines.
 -- Assumes nothing.
-use Rattle.std.proofs.Common.{◌≡◌, ◌≢◌, true, false, List, ℕ, ◌^◌, ◌<◌, ◌∙◌, arith}
+use Rattle.std.proofs.Common.{◌≡◌, refl, false, true, List, ℕ, ◌<◌, ◌∙◌, Some, arith}
 use Rattle.planning.specs.Bounds.{most_engines}
 use Rattle.planning.specs.Tables.{at}
-use Rattle.search.specs.Laws.Layout.Deliveries.{slot_found, slot-served}
-use Rattle.search.specs.Laws.Layout.Serving.{open_below}
-use Rattle.search.specs.Laws.Layout.Slots.{holds-inside, served_touched}
-use Rattle.search.specs.Layout.{holds, served_at, no_slot, state_in, Kept}
+use Rattle.search.specs.declared.state.State.{State}
+use Rattle.search.specs.Laws.Layout.Deliveries.{slot-rest, slot-served}
+use Rattle.search.specs.Laws.Layout.Slots.{holds-inside, rest_touched, served_touched}
+use Rattle.search.specs.Layout.{holds, rest_of, served_of, Kept, SlotOf}
 use Rattle.search.specs.Sets.{has}
-use Rattle.search.specs.Steps.{FindsSlot}
 
-module _ {energy limit : List ℕ} {left untouched opened : ℕ} {amount served row : List ℕ}
-    (kept : Kept energy limit (state_in left untouched amount served row opened)) where
-  -- what the lookup of a slot asks for
-  pub lookup : ((i : ℕ) → has opened i ≡ true → at served i ≡ 0) × (opened < 2 ^ most_engines)
-  lookup = (kept.engines.free, open_below kept.engines most_engines (omega (arith, kept.arrays.amounts)))
+module _ {energy limit : List ℕ} {s : State} (kept : Kept energy limit s) (p : ℕ) {k : ℕ}
+    (in_slot : SlotOf s.untouched s.served s.row p (Some k)) where
+  begun : has s.untouched p ≡ false
+  begun = (in_slot.begun k refl).0
 
-  module _ (p slot : ℕ) (is_left : has left p ≡ true) (begun : has untouched p ≡ false) (finds : FindsSlot served row p slot) where
-    pub in_slot : (slot ≢ no_slot) × (holds served row slot p ≡ true)
-    in_slot = slot_found kept.deliveries (omega (arith, kept.arrays.amounts)) p slot is_left begun finds
+  holding : holds s.served s.row k p ≡ true
+  holding = (in_slot.begun k refl).1
 
-    pub slot_inside : slot < most_engines
-    slot_inside = omega (arith, holds-inside served row slot p in_slot.1, kept.deliveries.serveds, kept.arrays.amounts)
+  pub slot_inside : k < most_engines
+  slot_inside = omega (arith, holds-inside s.served s.row k p holding, kept.deliveries.serveds, kept.arrays.amounts)
 
-    -- the engines that serve it are those of the slot
-    pub served_here : served_at untouched served row p ≡ at served slot
-    served_here = served_touched untouched served row p begun ∙ slot-served kept.deliveries slot p in_slot.1
+  pub rest_in_slot : rest_of energy s p ≡ at s.amount k
+  rest_in_slot = rest_touched energy s.untouched s.amount s.served s.row p begun ∙ slot-rest kept.deliveries k p holding
+
+  -- the engines that serve it are those of the slot
+  pub served_here : served_of s p ≡ at s.served k
+  served_here = served_touched s.untouched s.served s.row p begun ∙ slot-served kept.deliveries k p holding

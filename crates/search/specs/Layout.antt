@@ -4,14 +4,16 @@
 -- cut for it: a cut closes its engine, so that engine's amount holds the delivery's rest, and `served` the set of engines cut for it.
 -- There are as many slots as the arrays are long; only `Arrays` says how long that is.
 -- Assumes nothing.
-use Rattle.std.specs.Prelude.{◌≡◌, ◌≢◌, Bool, true, false, cond, ◌&&◌, List, ℕ, ◌-◌, ◌*◌, ◌≤◌, ◌<◌, ltb, eqb, length}
+use Rattle.std.specs.Prelude.{◌≡◌, Bool, true, false, cond, ◌&&◌, List, ℕ, ◌-◌, ◌*◌, ◌≤◌, ◌<◌, ltb, eqb, length, Option, Some, None}
 use Rattle.std.specs.Int.Count.{ones}
 use Rattle.planning.specs.Bounds.{most_engines, most_deliveries, most_fuel, most_energy, most_limit}
 use Rattle.planning.specs.Tables.{listed, at}
 use Rattle.planning.specs.Plan.{Within}
 use Rattle.planning.specs.Search.{State as Document, after_laying, after_cutting}
 use Rattle.planning.specs.Sum.{sum}
+use Rattle.search.specs.declared.state.Pick.{Pick}
 use Rattle.search.specs.declared.state.State.{State}
+use Rattle.search.specs.declared.state.Task.{Task}
 use Rattle.search.specs.Sets.{has}
 
 -- ---- what a state stands for
@@ -68,6 +70,10 @@ state_of engines deliveries energy limit s =
       limit = listed deliveries (λ p. limit_of limit s p);
     }
 
+-- and of a state in the search of a task
+abbrev pub document : Task → State → Document
+document task s = state_of task.engines task.deliveries task.energy task.limit s
+
 -- ---- what every state of a search keeps
 
 -- of its deliveries
@@ -118,47 +124,43 @@ pub record Room (engines deliveries cells : ℕ) : Type 0 where
   pub table : cells ≡ deliveries * engines
 
 -- a search under way
-pub record UnderWay (engines deliveries : ℕ) (energy limit : List ℕ) (s : State) (made allowance cells : ℕ) : Type 0 where
-  pub kept : Kept energy limit s
-  pub sized : Sized engines deliveries s.left s.«open»
-  pub room : Room engines deliveries cells
-  pub allowed : made ≤ allowance
+pub record UnderWay (task : Task) (s : State) (made cells : ℕ) : Type 0 where
+  pub kept : Kept task.energy task.limit s
+  pub sized : Sized task.engines task.deliveries s.left s.«open»
+  pub room : Room task.engines task.deliveries cells
+  pub allowed : made ≤ task.allowance
 
 -- ---- laying and cutting
 
--- the slot of a delivery that is untouched and so has none
-abbrev pub no_slot : ℕ
-no_slot = most_engines
+-- delivery p is in that slot, or is untouched and so has none
+pub record SlotOf (untouched : ℕ) (served row : List ℕ) (p : ℕ) (slot : Option ℕ) : Type 0 where
+  pub fresh : slot ≡ None → has untouched p ≡ true
+  pub begun : (k : ℕ) → slot ≡ Some k → (has untouched p ≡ false) × (holds served row k p ≡ true)
 
--- delivery p is in that slot
-pub record SlotOf (untouched : ℕ) (served row : List ℕ) (p slot : ℕ) : Type 0 where
-  pub fresh : slot ≡ no_slot → has untouched p ≡ true
-  pub begun : slot ≢ no_slot → (has untouched p ≡ false) × (holds served row slot p ≡ true)
+-- the delivery picked is left, with that rest, in that slot
+pub record Picked (energy : List ℕ) (s : State) (pick : Pick) : Type 0 where
+  pub is_left : has s.left pick.row ≡ true
+  pub is_rest : pick.rest ≡ rest_of energy s pick.row
+  pub is_slot : SlotOf s.untouched s.served s.row pick.row pick.slot
 
--- delivery `row` is left, with that rest, in that slot
-pub record Picked (energy : List ℕ) (s : State) (row slot rest : ℕ) : Type 0 where
-  pub is_left : has s.left row ≡ true
-  pub is_rest : rest ≡ rest_of energy s row
-  pub is_slot : SlotOf s.untouched s.served s.row row slot
-
--- delivery `row` can be laid on engine i, or cut there, in a state of some search
-pub record Layable (s : State) (row slot rest i : ℕ) : Type 0 where
+-- it can be laid on engine i, or cut there, in a state of some search
+pub record Layable (s : State) (pick : Pick) (i : ℕ) : Type 0 where
   pub energy : List ℕ
   pub limit : List ℕ
   pub kept : Kept energy limit s
-  pub picked : Picked energy s row slot rest
-  pub one : limit_of limit s row ≡ 1
+  pub picked : Picked energy s pick
+  pub one : limit_of limit s pick.row ≡ 1
   pub engine : has s.«open» i ≡ true
-  pub enough : rest ≤ at s.amount i
+  pub enough : pick.rest ≤ at s.amount i
 
-pub record Cuttable (s : State) (row slot rest i : ℕ) : Type 0 where
+pub record Cuttable (s : State) (pick : Pick) (i : ℕ) : Type 0 where
   pub energy : List ℕ
   pub limit : List ℕ
   pub kept : Kept energy limit s
-  pub picked : Picked energy s row slot rest
-  pub several : 2 ≤ limit_of limit s row
+  pub picked : Picked energy s pick
+  pub several : 2 ≤ limit_of limit s pick.row
   pub engine : has s.«open» i ≡ true
-  pub below : at s.amount i < rest
+  pub below : at s.amount i < pick.rest
 
 -- the state after delivery `row` was laid on engine i, or cut there: document 01's state after that step, for every plan's counts
 pub record Laid (energy limit : List ℕ) (s : State) (row i : ℕ) (r : State) : Type 0 where

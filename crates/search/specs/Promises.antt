@@ -1,18 +1,19 @@
 -- What a search promises: on numbers in range document 01's search, step A included; out of range it is not begun, and nothing is written.
 -- Assumes nothing.
-use Rattle.std.specs.Prelude.{◌≡◌, List, ℕ, ◌*◌, ◌≤◌, ◌<◌, length}
+use Rattle.std.specs.Prelude.{◌≡◌, List, ℕ, ◌*◌, ◌≤◌, ◌<◌, length, Result as Returned, Ok, Err}
 use Rattle.planning.specs.Bounds.{most_engines, most_deliveries, most_tries, most_fuel, most_energy, most_limit}
+use Rattle.planning.specs.declared.Outcome.TheVariants.{Found, None, Stopped}
 use Rattle.planning.specs.Plan.{Within}
 use Rattle.planning.specs.Search.{Result, found, none, stopped, up_to, searched}
 use Rattle.planning.specs.Tables.{at}
 use Rattle.search.specs.declared.Ended.{Ended}
-use Rattle.search.specs.declared.Ended.TheVariants.{Found, None, Stopped, OutOfRange}
+use Rattle.search.specs.declared.OutOfRange.{OutOfRange}
 
 -- a result as the search returns it
 unfoldable pub ended_of : Result → Ended
-ended_of (found tries table) = Found tries
-ended_of (none tries) = None tries
-ended_of (stopped tries) = Stopped tries
+ended_of (found tries table) = record { outcome = Found; tries = tries }
+ended_of (none tries) = record { outcome = None; tries = tries }
+ended_of (stopped tries) = record { outcome = Stopped; tries = tries }
 
 -- the table that a result leaves: "Found writes the piece table .. None and stopped leave both untouched." A lent table has the plan's own
 -- length, so found writes all of it
@@ -42,7 +43,7 @@ pub record InSearchRange (capacity energy limit : List ℕ) (allowance cells : �
   pub limits : AllWithin 1 most_limit limit
 
 -- What a search returns, and what the table holds that it was lent.
-pub record Answers (capacity energy limit : List ℕ) (allowance : ℕ) (lent : List ℕ) (r : Ended) (table : List ℕ) : Type 0 where
+pub record Answers (capacity energy limit : List ℕ) (allowance : ℕ) (lent : List ℕ) (r : Returned Ended OutOfRange) (table : List ℕ) : Type 0 where
   pub in_range : InSearchRange capacity energy limit allowance (length lent)
-      → (r ≡ ended_of (searched capacity energy limit (up_to allowance))) × (table ≡ written (searched capacity energy limit (up_to allowance)) lent)
-  pub otherwise : (InSearchRange capacity energy limit allowance (length lent) → ⊥) → (r ≡ OutOfRange) × (table ≡ lent)
+      → (r ≡ Ok (ended_of (searched capacity energy limit (up_to allowance)))) × (table ≡ written (searched capacity energy limit (up_to allowance)) lent)
+  pub otherwise : (InSearchRange capacity energy limit allowance (length lent) → ⊥) → (r ≡ Err (record {})) × (table ≡ lent)

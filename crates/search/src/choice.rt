@@ -1,17 +1,18 @@
 // Steps B to F decided: the bulkiest delivery, in one pass in file order, and the step that it leads to.
-ghost use Rattle.std.specs.Prelude.{◌≡◌, true, ℕ, ◌+◌, ◌-◌, ◌^◌, ◌≤◌, ◌<◌, eqb, length};
+ghost use Rattle.std.specs.Prelude.{◌≡◌, true, List, ℕ, ◌+◌, ◌-◌, ◌^◌, ◌≤◌, ◌<◌, eqb};
 ghost use Rattle.std.specs.Int.Count.{ones};
 ghost use Rattle.planning.specs.Bounds.{most_engines};
-ghost use Rattle.planning.specs.Tables.{listed, at};
+ghost use Rattle.planning.specs.Tables.{listed};
 ghost use Rattle.planning.specs.Search.{bulkier as comes_before, smallest_of};
-ghost use Rattle.search.specs.Layout.{remaining_at, state_in, Kept};
+ghost use Rattle.search.specs.Layout.{remaining_at, Kept, SlotOf};
 ghost use Rattle.search.specs.Sets.{has, Others};
-ghost use Rattle.search.specs.Steps.{FindsSlot, IsDelivery, IsBulkiest, IsTurn};
+ghost use Rattle.search.specs.Steps.{IsDelivery, IsBulkiest, IsTurn};
 
-use crate::state::{NO_SLOT, Pick};
-use planning::{MOST_DELIVERIES, MOST_ENGINES, wide};
+use crate::members::Members;
+use crate::state::{Pick, State, Task};
+use planning::MOST_ENGINES;
 
-// The step that applies.
+// The step that applies. It is matched where choose goes on to it, and is no closure: choose, lay and cut call each other.
 #[derive(Drop)]
 pub(crate) enum Turn {
     Finished,
@@ -20,36 +21,30 @@ pub(crate) enum Turn {
     Cut(Pick),
 }
 
-// The row of no delivery.
-const NO_ROW: usize = MOST_DELIVERIES;
-
-// A delivery left, or none where the row is NO_ROW: its slot, its rest and the limit that is left of its LIMIT, which is the most engines
-// it may be drawn from, by the set of engines that serve it already.
-#[derive(Drop)]
+// A delivery left, and the limit that is left of its LIMIT, which is the most engines it may be drawn from, by the set of engines that
+// serve it already.
+#[derive(Clone, Copy)]
 struct Candidate {
-    row: usize,
-    slot: usize,
-    rest: u32,
+    pick: Pick,
     limit: u8,
     served: u16,
     most: u8,
 }
 
 // Whether p comes before q: limit 1 first, among them the larger rest; else by rest / (limit - 1), multiplied out.
-fn bulkier(rest_p: u32, limit_p: u8, rest_q: u32, limit_q: u8) -> bool
-    requires { (1 ≤ limit_p) × (1 ≤ limit_q) }
-    ensures { result ≡ comes_before rest_p limit_p rest_q limit_q }
+fn bulkier(p: Candidate, q: Candidate) -> bool
+    requires { (1 ≤ p.limit) × (1 ≤ q.limit) }
+    ensures { result ≡ comes_before p.pick.rest p.limit q.pick.rest q.limit }
 {
-    if limit_p == 1 {
-        if limit_q == 1 {
-            return rest_q < rest_p;
+    match (p.limit == 1, q.limit == 1) {
+        (true, true) => q.pick.rest < p.pick.rest,
+        (true, false) => true,
+        (false, true) => false,
+        (false, false) => {
+            u64::from(q.pick.rest) * (u64::from(p.limit) - 1)
+                < u64::from(p.pick.rest) * (u64::from(q.limit) - 1)
         }
-        return true;
     }
-    if limit_q == 1 {
-        return false;
-    }
-    wide(rest_q) * (limit_p as u64 - 1) < wide(rest_p) * (limit_q as u64 - 1)
 }
 
 // The engines that are closed, as a set.
@@ -60,28 +55,23 @@ fn closed(open: u16) -> u16
     (1u16 << MOST_ENGINES) - 1 - open
 }
 
-// The slot in use for a delivery. Slots of open engines are free, so the closed ones alone are looked at: a pass over all slots, made for
-// every delivery that is begun, would cost each try.
-pub(crate) fn slot_of<'a>(
-    served: &'a [u16; MOST_ENGINES],
-    row: &'a [u8; MOST_ENGINES],
-    open: u16,
-    p: u8,
-) -> usize
-    requires { ((i : ℕ) → has «open» i ≡ true → at served.now i ≡ 0) × («open» < 2 ^ most_engines) }
-    ensures { FindsSlot served.now row.now p result }
+// The slot of a delivery left, where it is begun. Slots of open engines are free, so the closed ones alone are looked at: a pass over all
+// slots, made for every delivery that is begun, would cost each try. One that is begun has a slot among them, so
+// the pass ends there.
+pub(crate) fn slot_of(s: &State, p: usize) -> Option<usize>
+    requires kept { (energy limit : List ℕ) × Kept energy limit s.now }
+    requires is_left { has s.now.left p ≡ true }
+    ensures { SlotOf s.now.untouched s.now.served s.now.row p result }
 {
-    let mut set = closed(open);
-    while set != 0 {
-        let k = u16::trailing_zeros(set) as usize;
-        if row[k] == p {
-            if served[k] != 0 {
-                return k;
-            }
-        }
-        set = set - (1u16 << k);
+    if (s.untouched >> p) % 2 == 1 {
+        return None;
     }
-    NO_SLOT
+    for k in Members(u64::from(closed(s.open))) {
+        if usize::from(s.row[k]) == p && s.served[k] != 0 {
+            return Some(k);
+        }
+    }
+    None
 }
 
 // The limit that is left: LIMIT less the engines that serve already.
@@ -89,7 +79,7 @@ fn limit_left(most: u8, served: u16) -> u8
     requires { ones served ≤ most }
     ensures { result ≡ most - ones served }
 {
-    most - (u16::count_ones(served) as u8)
+    most - served.count_ones() as u8
 }
 
 // "The set of engines that serve a delivery has at most LIMIT members.": the members that it has, and one more, are LIMIT. Step D applies
@@ -97,137 +87,91 @@ fn limit_left(most: u8, served: u16) -> u8
 fn one_more_is_limit(served: u16, most: u8) -> bool
     ensures { result ≡ eqb (ones served + 1) most }
 {
-    u16::count_ones(served) + 1 == most as u32
+    served.count_ones() + 1 == u32::from(most)
 }
 
 // Delivery p of those left.
-fn candidate_at<'a>(
-    p: usize,
-    left: u64,
-    untouched: u64,
-    amount: &'a [u32; MOST_ENGINES],
-    served: &'a [u16; MOST_ENGINES],
-    row: &'a [u8; MOST_ENGINES],
-    open: u16,
-    energy: &'a [u32; MOST_DELIVERIES],
-    limit: &'a [u8; MOST_DELIVERIES],
-) -> Candidate
-    requires { Kept energy.now limit.now (state_in left untouched amount.now served.now row.now «open») × (has left p ≡ true) }
-    ensures { IsDelivery energy.now limit.now
-        (state_in left untouched amount.now served.now row.now «open»)
-        p result }
+fn candidate_at(p: usize, s: &State, task: &Task) -> Candidate
+    requires kept { Kept task.now.energy task.now.limit s.now }
+    requires is_left { has s.now.left p ≡ true }
+    ensures { IsDelivery task.now.energy task.now.limit s.now p result }
 {
-    let most = limit[p];
-    if (untouched >> p) % 2 == 1 {
-        let rest = energy[p];
-        return Candidate {
-            row: p,
-            slot: NO_SLOT,
-            rest,
+    let most = task.limit[p];
+    let slot = slot_of(s, p);
+    match slot {
+        None => Candidate {
+            pick: Pick {
+                row: p,
+                slot,
+                rest: task.energy[p],
+            },
             limit: most,
             served: 0,
             most,
-        };
-    }
-    let k = slot_of(served, row, open, p as u8);
-    let serving = served[k];
-    let rest = amount[k];
-    Candidate {
-        row: p,
-        slot: k,
-        rest,
-        limit: limit_left(most, serving),
-        served: serving,
-        most,
+        },
+        Some(k) => Candidate {
+            pick: Pick {
+                row: p,
+                slot,
+                rest: s.amount[k],
+            },
+            limit: limit_left(most, s.served[k]),
+            served: s.served[k],
+            most,
+        },
     }
 }
 
 // The bulkiest delivery, the earlier of two that are equal: one pass in file order, limit 1 and the others together.
-fn bulkiest<'a>(
-    left: u64,
-    untouched: u64,
-    amount: &'a [u32; MOST_ENGINES],
-    served: &'a [u16; MOST_ENGINES],
-    row: &'a [u8; MOST_ENGINES],
-    open: u16,
-    energy: &'a [u32; MOST_DELIVERIES],
-    limit: &'a [u8; MOST_DELIVERIES],
-) -> Candidate
-    requires { Kept energy.now limit.now (state_in left untouched amount.now served.now row.now «open») }
-    ensures { IsBulkiest energy.now limit.now
-        (state_in left untouched amount.now served.now row.now «open»)
-        result }
+fn bulkiest(s: &State, task: &Task) -> Option<Candidate>
+    requires { Kept task.now.energy task.now.limit s.now }
+    ensures { IsBulkiest task.now.energy task.now.limit s.now result }
 {
-    let mut set = left;
-    let mut best = Candidate {
-        row: NO_ROW,
-        slot: NO_SLOT,
-        rest: 0,
-        limit: 0,
-        served: 0,
-        most: 0,
-    };
-    while set != 0 {
-        let p = u64::trailing_zeros(set) as usize;
-        let next = candidate_at(p, left, untouched, amount, served, row, open, energy, limit);
-        if best.row == NO_ROW || bulkier(next.rest, next.limit, best.rest, best.limit) {
-            best = next;
+    let mut best = None;
+    for p in Members(s.left) {
+        let next = candidate_at(p, s, task);
+        let comes_first = match best {
+            None => true,
+            Some(first) => bulkier(next, first),
+        };
+        if comes_first {
+            best = Some(next);
         }
-        set = set - (1u64 << p);
     }
     best
 }
 
 // The smallest remaining of open engines, 0 where none is open.
-fn smallest(open: u16, amount: &[u32; MOST_ENGINES]) -> u32
-    requires { ((i : ℕ) → has «open» i ≡ true → 1 ≤ at amount.now i) × (length amount.now ≡ most_engines) }
-    ensures { (engines : ℕ) → ((i : ℕ) → has «open» i ≡ true → i < engines)
-        → result ≡ smallest_of (listed engines (λ i. remaining_at «open» amount.now i)) engines }
+fn smallest(s: &State) -> u32
+    requires { (energy limit : List ℕ) × Kept energy limit s.now }
+    ensures { (engines : ℕ) → ((i : ℕ) → has s.now.«open» i ≡ true → i < engines)
+        → result ≡ smallest_of (listed engines (λ i. remaining_at s.now.«open» s.now.amount i)) engines }
 {
-    let mut set = open;
     let mut least: u32 = 0;
-    while set != 0 {
-        let i = u16::trailing_zeros(set) as usize;
-        let remaining = amount[i];
+    for i in Members(u64::from(s.open)) {
+        let remaining = s.amount[i];
         if least == 0 || remaining < least {
             least = remaining;
         }
-        set = set - (1u16 << i);
     }
     least
 }
 
 // The step that applies to a state.
-pub(crate) fn next_turn<'a>(
-    left: u64,
-    untouched: u64,
-    amount: &'a [u32; MOST_ENGINES],
-    served: &'a [u16; MOST_ENGINES],
-    row: &'a [u8; MOST_ENGINES],
-    open: u16,
-    energy: &'a [u32; MOST_DELIVERIES],
-    limit: &'a [u8; MOST_DELIVERIES],
-) -> Turn
-    requires { Kept energy.now limit.now (state_in left untouched amount.now served.now row.now «open») }
-    ensures { IsTurn energy.now limit.now
-        (state_in left untouched amount.now served.now row.now «open»)
-        result }
+pub(crate) fn next_turn(s: &State, task: &Task) -> Turn
+    requires { Kept task.now.energy task.now.limit s.now }
+    ensures { IsTurn task.now.energy task.now.limit s.now result }
 {
-    let best = bulkiest(left, untouched, amount, served, row, open, energy, limit);
-    if best.row == NO_ROW {
+    let Some(best) = bulkiest(s, task) else {
         return Turn::Finished;
-    }
-    let pick = Pick {
-        row: best.row,
-        slot: best.slot,
-        rest: best.rest,
     };
     if one_more_is_limit(best.served, best.most) {
-        return Turn::Lay(pick);
+        return Turn::Lay(best.pick);
     }
-    let least = smallest(open, amount);
-    if wide(best.rest) <= (best.limit as u64 - 1) * wide(least) {
-        return Turn::Fill;
+    let least = smallest(s);
+    if u64::from(best.pick.rest) <= (u64::from(best.limit) - 1) * u64::from(least) {
+        Turn::Fill
+    } else {
+        Turn::Cut(best.pick)
     }
-    Turn::Cut(pick)
 }

@@ -2,184 +2,116 @@
 // written into the table on the way back from found.
 ghost use Rattle.std.specs.Prelude.{◌≡◌, ◌≤◌, length};
 ghost use Rattle.planning.specs.Search.{up_to, lays, cuts, perform, search_from};
-ghost use Rattle.search.specs.Layout.{state_of, UnderWay, Picked, limit_of};
+ghost use Rattle.search.specs.Layout.{document, UnderWay, Picked, limit_of};
 ghost use Rattle.search.specs.Steps.{EndsIn};
 
 use crate::choice::{Turn, next_turn};
-use crate::fill;
-use crate::state::State;
-use planning::{MOST_DELIVERIES, wide};
-
-// What the steps from a state end in, with the tries made by then.
-#[derive(Drop)]
-pub(crate) enum Tried {
-    Found(u32),
-    None(u32),
-    Stopped(u32),
-}
+use crate::members::Members;
+use crate::state::{Pick, State, Task};
+use crate::{Ended, fill};
+use planning::Outcome;
 
 // Step B, C, E, or on to D or F.
 #[cycle(choose_cut_lay)]
-pub(crate) fn choose<'a>(
-    s: State,
-    made: u32,
-    allowance: u32,
-    engines: usize,
-    deliveries: usize,
-    energy: &'a [u32; MOST_DELIVERIES],
-    limit: &'a [u8; MOST_DELIVERIES],
-    table: &mut [u64],
-) -> Tried
-    requires { UnderWay engines deliveries energy.now limit.now s made allowance (length table.old) }
-    ensures { EndsIn (search_from (up_to allowance) (state_of engines deliveries energy.now limit.now s) made)
-        table.old result table.new }
+pub(crate) fn choose(s: State, made: u32, task: &Task, table: &mut [u64]) -> Ended
+    requires { UnderWay task.now s made (length table.old) }
+    ensures { EndsIn (search_from (up_to task.now.allowance) (document task.now s) made) table.old result table.new }
 {
-    let left = s.left;
-    let untouched = s.untouched;
-    let open = s.open;
-    let turn = next_turn(
-        left, untouched, &s.amount, &s.served, &s.row, open, energy, limit,
-    );
-    match turn {
+    match next_turn(&s, task) {
         Turn::Finished => {
-            fill::clear(table);
-            Tried::Found(made)
+            // no piece anywhere
+            table.fill(0);
+            Ended {
+                outcome: Outcome::Found,
+                tries: made,
+            }
         }
         Turn::Fill => {
-            fill::straight(
-                table, engines, deliveries, left, untouched, &s.amount, &s.served, &s.row, open,
-                energy,
-            );
-            Tried::Found(made)
+            fill::straight(&s, task, table);
+            Ended {
+                outcome: Outcome::Found,
+                tries: made,
+            }
         }
-        Turn::Lay(pick) => lay(
-            s, pick.row, pick.slot, pick.rest, made, allowance, engines, deliveries, energy, limit,
-            table,
-        ),
-        Turn::Cut(pick) => cut(
-            s, pick.row, pick.slot, pick.rest, made, allowance, engines, deliveries, energy, limit,
-            table,
-        ),
+        Turn::Lay(pick) => lay(s, pick, made, task, table),
+        Turn::Cut(pick) => cut(s, pick, made, task, table),
     }
 }
 
-// Step D: one try for each open engine with room for the whole rest.
+// Step D: one try for each open engine with room for the whole rest. Step F below has the same loop: both stand in the cycle with choose,
+// which gets no proof through a closure.
 #[cycle(choose_cut_lay)]
-fn lay<'a>(
-    s: State,
-    row: usize,
-    slot: usize,
-    rest: u32,
-    made: u32,
-    allowance: u32,
-    engines: usize,
-    deliveries: usize,
-    energy: &'a [u32; MOST_DELIVERIES],
-    limit: &'a [u8; MOST_DELIVERIES],
-    table: &mut [u64],
-) -> Tried
-    requires { UnderWay engines deliveries energy.now limit.now s made allowance (length table.old)
-        × Picked energy.now s row slot rest
-        × (limit_of limit.now s row ≡ 1) }
+fn lay(s: State, pick: Pick, made: u32, task: &Task, table: &mut [u64]) -> Ended
+    requires under_way { UnderWay task.now s made (length table.old) }
+    requires picked { Picked task.now.energy s pick }
+    requires one { limit_of task.now.limit s pick.row ≡ 1 }
     ensures { EndsIn
-        (perform (lays row) (λ after tries. search_from (up_to allowance) after tries) (up_to allowance)
-        (state_of engines deliveries energy.now limit.now s) made)
+        (perform (lays pick.row) (λ after tries. search_from (up_to task.now.allowance) after tries)
+        (up_to task.now.allowance) (document task.now s) made)
         table.old result table.new }
 {
-    let mut set = s.open;
     let mut tries = made;
-    while set != 0 {
-        let i = u16::trailing_zeros(set) as usize;
-        if rest <= s.amount[i] {
-            if tries == allowance {
-                return Tried::Stopped(allowance);
+    for i in Members(u64::from(s.open)) {
+        if pick.rest <= s.amount[i] {
+            if tries == task.allowance {
+                return Ended {
+                    outcome: Outcome::Stopped,
+                    tries,
+                };
             }
-            let next = s.lay(row, slot, rest, i);
-            let ended = choose(
-                next,
-                tries + 1,
-                allowance,
-                engines,
-                deliveries,
-                energy,
-                limit,
-                &mut *table,
-            );
-            match ended {
-                Tried::Found(t) => {
-                    table[row * engines + i] = wide(rest);
-                    return Tried::Found(t);
+            let next = s.lay(pick, i);
+            let ended = choose(next, tries + 1, task, table);
+            match ended.outcome {
+                Outcome::Found => {
+                    table[pick.row * task.engines + i] = u64::from(pick.rest);
+                    return ended;
                 }
-                Tried::Stopped(t) => {
-                    return Tried::Stopped(t);
-                }
-                Tried::None(t) => {
-                    tries = t;
-                }
+                Outcome::Stopped => return ended,
+                Outcome::None => tries = ended.tries,
             }
         }
-        set = set - (1u16 << i);
     }
-    Tried::None(tries)
+    Ended {
+        outcome: Outcome::None,
+        tries,
+    }
 }
 
 // Step F: one try for each open engine that is smaller than the rest.
 #[cycle(choose_cut_lay)]
-fn cut<'a>(
-    s: State,
-    row: usize,
-    slot: usize,
-    rest: u32,
-    made: u32,
-    allowance: u32,
-    engines: usize,
-    deliveries: usize,
-    energy: &'a [u32; MOST_DELIVERIES],
-    limit: &'a [u8; MOST_DELIVERIES],
-    table: &mut [u64],
-) -> Tried
-    requires { UnderWay engines deliveries energy.now limit.now s made allowance (length table.old)
-        × Picked energy.now s row slot rest
-        × (2 ≤ limit_of limit.now s row) }
+fn cut(s: State, pick: Pick, made: u32, task: &Task, table: &mut [u64]) -> Ended
+    requires under_way { UnderWay task.now s made (length table.old) }
+    requires picked { Picked task.now.energy s pick }
+    requires several { 2 ≤ limit_of task.now.limit s pick.row }
     ensures { EndsIn
-        (perform (cuts row) (λ after tries. search_from (up_to allowance) after tries) (up_to allowance)
-        (state_of engines deliveries energy.now limit.now s) made)
+        (perform (cuts pick.row) (λ after tries. search_from (up_to task.now.allowance) after tries)
+        (up_to task.now.allowance) (document task.now s) made)
         table.old result table.new }
 {
-    let mut set = s.open;
     let mut tries = made;
-    while set != 0 {
-        let i = u16::trailing_zeros(set) as usize;
+    for i in Members(u64::from(s.open)) {
         let piece = s.amount[i];
-        if piece < rest {
-            if tries == allowance {
-                return Tried::Stopped(allowance);
+        if piece < pick.rest {
+            if tries == task.allowance {
+                return Ended {
+                    outcome: Outcome::Stopped,
+                    tries,
+                };
             }
-            let next = s.cut(row, slot, rest, i);
-            let ended = choose(
-                next,
-                tries + 1,
-                allowance,
-                engines,
-                deliveries,
-                energy,
-                limit,
-                &mut *table,
-            );
-            match ended {
-                Tried::Found(t) => {
-                    table[row * engines + i] = wide(piece);
-                    return Tried::Found(t);
+            let next = s.cut(pick, i);
+            let ended = choose(next, tries + 1, task, table);
+            match ended.outcome {
+                Outcome::Found => {
+                    table[pick.row * task.engines + i] = u64::from(piece);
+                    return ended;
                 }
-                Tried::Stopped(t) => {
-                    return Tried::Stopped(t);
-                }
-                Tried::None(t) => {
-                    tries = t;
-                }
+                Outcome::Stopped => return ended,
+                Outcome::None => tries = ended.tries,
             }
         }
-        set = set - (1u16 << i);
     }
-    Tried::None(tries)
+    Ended {
+        outcome: Outcome::None,
+        tries,
+    }
 }

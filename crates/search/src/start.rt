@@ -1,70 +1,31 @@
 // Step A, and the state that the other steps begin in.
-ghost use Rattle.std.specs.Prelude.{◌≡◌, ℕ, ◌≤◌, ◌^◌, ltb, length};
+ghost use Rattle.std.specs.Prelude.{◌≡◌, ◌++◌, ℕ, ◌-◌, ◌≤◌, ◌^◌, ltb, length, replicate, sum};
 ghost use Rattle.planning.specs.Bounds.{most_engines, most_deliveries};
-ghost use Rattle.planning.specs.Search.{searched, total as total_of, up_to};
-ghost use Rattle.planning.specs.Tables.{at, padded};
+ghost use Rattle.planning.specs.Search.{searched, up_to};
+ghost use Rattle.planning.specs.Tables.{at};
 ghost use Rattle.search.specs.Promises.{InSearchRange};
 ghost use Rattle.search.specs.Sets.{has};
 ghost use Rattle.search.specs.Steps.{EndsIn};
 
-use crate::cycle;
-use crate::cycle::Tried;
-use crate::state::State;
-use planning::{MOST_DELIVERIES, MOST_ENGINES, wide};
+use crate::state::{State, Task};
+use crate::{Ended, cycle};
+use planning::{MOST_ENGINES, Outcome};
 
 // The sum of a list.
 fn total(list: &[u32]) -> u64
     requires { length list.now ≤ 2 ^ 32 }
-    ensures { result ≡ total_of list.now }
+    ensures { result ≡ sum list.now }
 {
-    let mut sum: u64 = 0;
-    let mut i = 0;
-    while i < list.len() {
-        sum += wide(list[i]);
-        i += 1;
-    }
-    sum
+    list.iter().map(|x| u64::from(*x)).sum()
 }
 
-// The capacities, 0 for engines that the plan does not have.
-fn amounts(capacities: &[u32]) -> [u32; MOST_ENGINES]
-    requires { length capacities.now ≤ most_engines }
-    ensures { result ≡ padded most_engines capacities.now }
+// A list in an array, and behind it what stands for no number of it.
+fn padded<T: Copy, const N: usize>(list: &[T], none: T) -> [T; N]
+    requires { length list.now ≤ N }
+    ensures { result ≡ list.now ++ replicate (N - length list.now) none }
 {
-    let mut out = [0u32; MOST_ENGINES];
-    let mut i = 0;
-    while i < capacities.len() {
-        out[i] = capacities[i];
-        i += 1;
-    }
-    out
-}
-
-// The energies, 0 for deliveries that the plan does not have.
-fn all_energies(energies: &[u32]) -> [u32; MOST_DELIVERIES]
-    requires { length energies.now ≤ most_deliveries }
-    ensures { result ≡ padded most_deliveries energies.now }
-{
-    let mut out = [0u32; MOST_DELIVERIES];
-    let mut p = 0;
-    while p < energies.len() {
-        out[p] = energies[p];
-        p += 1;
-    }
-    out
-}
-
-// The limits alike.
-fn all_limits(limits: &[u8]) -> [u8; MOST_DELIVERIES]
-    requires { length limits.now ≤ most_deliveries }
-    ensures { result ≡ padded most_deliveries limits.now }
-{
-    let mut out = [0u8; MOST_DELIVERIES];
-    let mut p = 0;
-    while p < limits.len() {
-        out[p] = limits[p];
-        p += 1;
-    }
+    let mut out = [none; N];
+    out[..list.len()].copy_from_slice(list);
     out
 }
 
@@ -74,12 +35,10 @@ fn open_engines(capacities: &[u32]) -> u16
     ensures { (i : ℕ) → has result i ≡ ltb 0 (at capacities.now i) }
 {
     let mut open: u16 = 0;
-    let mut i = 0;
-    while i < capacities.len() {
-        if capacities[i] != 0 {
-            open = open + (1u16 << i);
+    for (i, capacity) in capacities.iter().enumerate() {
+        if *capacity != 0 {
+            open += 1u16 << i;
         }
-        i += 1;
     }
     open
 }
@@ -93,40 +52,37 @@ fn first_deliveries(n: usize) -> u64
 }
 
 // Step A, then the other steps from the first state.
-pub(crate) fn begin<'a>(
-    capacities: &'a [u32],
-    energies: &'a [u32],
-    limits: &'a [u8],
+pub(crate) fn begin(
+    capacities: &[u32],
+    energies: &[u32],
+    limits: &[u8],
     allowance: u32,
     table: &mut [u64],
-) -> Tried
+) -> Ended
     requires { InSearchRange capacities.now energies.now limits.now allowance (length table.old) }
     ensures { EndsIn (searched capacities.now energies.now limits.now (up_to allowance)) table.old result table.new }
 {
     if total(capacities) < total(energies) {
-        return Tried::None(0);
+        return Ended {
+            outcome: Outcome::None,
+            tries: 0,
+        };
     }
-    let energy = all_energies(energies);
-    let limit = all_limits(limits);
-    let amount = amounts(capacities);
+    let task = Task {
+        engines: capacities.len(),
+        deliveries: energies.len(),
+        energy: padded(energies, 0),
+        limit: padded(limits, 0),
+        allowance,
+    };
     let left = first_deliveries(energies.len());
-    let open = open_engines(capacities);
     let first = State {
         left,
         untouched: left,
-        amount,
-        served: [0u16; MOST_ENGINES],
-        row: [0u8; MOST_ENGINES],
-        open,
+        amount: padded(capacities, 0),
+        served: [0; MOST_ENGINES],
+        row: [0; MOST_ENGINES],
+        open: open_engines(capacities),
     };
-    cycle::choose(
-        first,
-        0,
-        allowance,
-        capacities.len(),
-        energies.len(),
-        &energy,
-        &limit,
-        table,
-    )
+    cycle::choose(first, 0, &task, table)
 }

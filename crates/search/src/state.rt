@@ -3,11 +3,19 @@
 ghost use Rattle.std.specs.Prelude.{◌≡◌, List, ℕ, ◌≤◌};
 ghost use Rattle.search.specs.Layout.{Kept, Picked, Layable, Cuttable, Laid, CutOff, limit_of};
 
-use planning::MOST_ENGINES;
+use planning::{MOST_DELIVERIES, MOST_ENGINES};
 
-// The slot of a delivery that is untouched and so has none.
-pub(crate) const NO_SLOT: usize = MOST_ENGINES;
+// What stays the same over a search: the plan's counts, its deliveries' energies and limits, 0 behind them, and the allowance of tries.
+#[derive(Clone, Copy)]
+pub(crate) struct Task {
+    pub engines: usize,
+    pub deliveries: usize,
+    pub energy: [u32; MOST_DELIVERIES],
+    pub limit: [u8; MOST_DELIVERIES],
+    pub allowance: u32,
+}
 
+// Three columns: an array of structs would pad seven bytes of an engine to eight, and a state, which each try copies, from 104 bytes to 120.
 #[derive(Clone, Copy)]
 pub(crate) struct State {
     // deliveries left, and those of them that no engine was cut for, as sets
@@ -15,7 +23,7 @@ pub(crate) struct State {
     pub untouched: u64,
     // of an open engine what remains; of a slot in use its delivery's rest
     pub amount: [u32; MOST_ENGINES],
-    // of a slot in use the set of engines cut for its delivery; 0 of a free slot
+    // of a slot in use the set of engines cut for its delivery, a number whose ones are counted; the empty set of a free slot
     pub served: [u16; MOST_ENGINES],
     // of a slot in use its delivery
     pub row: [u8; MOST_ENGINES],
@@ -23,49 +31,57 @@ pub(crate) struct State {
     pub open: u16,
 }
 
-// A delivery left: its place in the file, its slot and its rest.
-#[derive(Drop)]
+// A delivery left: its place in the file, its slot, where it is begun, and its rest.
+#[derive(Clone, Copy)]
 pub(crate) struct Pick {
     pub row: usize,
-    pub slot: usize,
+    pub slot: Option<usize>,
     pub rest: u32,
 }
 
 impl State {
+    // `lay` and `cut` give each try a state of its own by value, so what a state keeps (`Kept`) is asked for here, and no view carries it.
+
     // The whole rest of a delivery of limit 1 is laid on engine i.
-    pub(crate) fn lay(mut self, row: usize, slot: usize, rest: u32, i: usize) -> State
-        requires { Layable self row slot rest i }
-        ensures { (energy limit : List ℕ) → Kept energy limit self → Picked energy self row slot rest → limit_of limit self row ≡ 1 → Laid energy limit self row i result }
+    pub(crate) fn lay(mut self, pick: Pick, i: usize) -> State
+        requires { Layable self pick i }
+        ensures { (energy limit : List ℕ) → Kept energy limit self → Picked energy self pick
+            → limit_of limit self pick.row ≡ 1
+            → Laid energy limit self pick.row i result }
     {
-        let remaining = self.amount[i] - rest;
+        let remaining = self.amount[i] - pick.rest;
         self.amount[i] = remaining;
         if remaining == 0 {
-            self.open = self.open - (1u16 << i);
+            self.open -= 1u16 << i;
         }
-        self.left = self.left - (1u64 << row);
-        if slot != NO_SLOT {
-            self.served[slot] = 0;
-        } else {
-            self.untouched = self.untouched - (1u64 << row);
+        self.left -= 1u64 << pick.row;
+        match pick.slot {
+            Some(slot) => self.served[slot] = 0,
+            None => self.untouched -= 1u64 << pick.row,
         }
         self
     }
 
     // A piece equal to what remains of engine i is cut off a delivery of limit 2 or more, and the engine is closed.
-    pub(crate) fn cut(mut self, row: usize, slot: usize, rest: u32, i: usize) -> State
-        requires { Cuttable self row slot rest i }
-        ensures { (energy limit : List ℕ) → Kept energy limit self → Picked energy self row slot rest → 2 ≤ limit_of limit self row → CutOff energy limit self row i result }
+    pub(crate) fn cut(mut self, pick: Pick, i: usize) -> State
+        requires { Cuttable self pick i }
+        ensures { (energy limit : List ℕ) → Kept energy limit self → Picked energy self pick
+            → 2 ≤ limit_of limit self pick.row
+            → CutOff energy limit self pick.row i result }
     {
-        let piece = self.amount[i];
-        self.open = self.open - (1u16 << i);
-        if slot != NO_SLOT {
-            self.amount[slot] = rest - piece;
-            self.served[slot] = self.served[slot] + (1u16 << i);
-        } else {
-            self.untouched = self.untouched - (1u64 << row);
-            self.amount[i] = rest - piece;
-            self.served[i] = 1u16 << i;
-            self.row[i] = row as u8;
+        let rest = pick.rest - self.amount[i];
+        self.open -= 1u16 << i;
+        match pick.slot {
+            Some(slot) => {
+                self.amount[slot] = rest;
+                self.served[slot] += 1u16 << i;
+            }
+            None => {
+                self.untouched -= 1u64 << pick.row;
+                self.amount[i] = rest;
+                self.served[i] = 1u16 << i;
+                self.row[i] = pick.row as u8;
+            }
         }
         self
     }

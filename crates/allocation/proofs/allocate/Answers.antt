@@ -1,62 +1,73 @@
--- By the verdict of the checks, and where the call is accepted by the answer. That what is returned and left then keeps every promise is
--- planning's Laws/Promised.
-use Rattle.std.proofs.Common.{sym, ◌∙◌}
-use Rattle.planning.specs.Numbers.{call_on}
+-- By the checks, and where the call is accepted by the answer. That what is returned and left then keeps every promise is planning's
+-- Laws/Promised.
+use Rattle.std.proofs.Common.{◌≡◌, ◌≢◌, sym, ◌∙◌, rules}
+use Rattle.std.proofs.lemmas.Result.{err_from_is_err_and}
+use Rattle.planning.specs.declared.Outcome.TheVariants.{Found}
+use Rattle.planning.specs.Numbers.{call_of}
 use Rattle.planning.proofs.Laws.Lent.{refused-keeps}
 use Rattle.planning.proofs.Laws.Promised.{promised}
 use Rattle.checks.specs.Laws.Checked.{refused-call, accepted-call, accepted-plan, accepted-usable}
-use Rattle.allocation.specs.Laws.Calls.{cells-lent, spares-lent, answered-result, answered-table, answered-most, answered-serves, answered-spare, kept-unless-found}
+use Rattle.allocation.specs.Laws.Calls.{cells-lent, spares-lent, answered-result, answered-table, answered-most}
+use Rattle.allocation.specs.Laws.Calls.{answered-serves, answered-spare, kept-unless-found}
 use Rattle.allocation.proofs.allocate.Goals as goal
 
-pub plan-answer-requires : goal.plan-answer-requires
-plan-answer-requires c =
-    let a = c.args in
-    let call = call_on a.mode a.minutes a.allowance a.watts.now a.fuels.now a.energies.now a.limits.now a.quiet.now a.table.now a.spare.now in
-    let came = c.check-checked.ensures in
-    let ok = accepted-call call came c.in-Accepted.is in
-    (accepted-usable call came c.in-Accepted.is, cells-lent call ok _ (accepted-plan call came c.in-Accepted.is))
+pub returns-in_err-plan : goal.returns-in_err-plan
+returns-in_err-plan c =
+    let came = refused-call c.args.lists c.args.table.now c.args.spare.now (sym c.in_err-plan.was ∙ c.check.ensures) in
+    let kept = refused-keeps _ _ came in
+    let p = err_from_is_err_and c.from_residual.result c.from_residual.ensures.1 in
+    rw (p.1, p.2) (promised _ (sym kept.0) (sym kept.1) (sym kept.2))
 
-pub write-requires : goal.write-requires
-write-requires c =
+pub invariant_of-accepted : goal.invariant_of-accepted
+invariant_of-accepted c =
     let a = c.args in
-    let call = call_on a.mode a.minutes a.allowance a.watts.now a.fuels.now a.energies.now a.limits.now a.quiet.now a.table.now a.spare.now in
-    let came = c.check-checked.ensures in
-    let ok = accepted-call call came c.in-Accepted.is in
-    let is = accepted-plan call came c.in-Accepted.is in (
-      accepted-usable call came c.in-Accepted.is,
-      answered-most call ok _ is c.plan-answer.ensures,
-      c.plan-answer.auto.table ∙ cells-lent call ok _ is,
-      answered-serves call ok _ is c.plan-answer.ensures c.in-Found.is,
-      spares-lent call ok _ is,
-    )
+    record { usable = accepted-usable a.lists a.table.now a.spare.now (sym c.in_ok-plan.was ∙ c.check.ensures) }
 
-pub returns-in-Refused : goal.returns-in-Refused
-returns-in-Refused c =
+pub answer-answer-requires : goal.answer-answer-requires
+answer-answer-requires c =
     let a = c.args in
-    let call = call_on a.mode a.minutes a.allowance a.watts.now a.fuels.now a.energies.now a.limits.now a.quiet.now a.table.now a.spare.now in
-    let kept = refused-keeps _ _ (refused-call call c.check-checked.ensures c.in-Refused.is) in
-    promised _ (sym kept.0) (sym kept.1) (sym kept.2)
+    let came = sym c.in_ok-plan.was ∙ c.check.ensures in
+    let ok = accepted-call a.lists a.table.now a.spare.now came in
+    let is = accepted-plan a.lists a.table.now a.spare.now came in
+    cells-lent (call_of a.lists a.table.now a.spare.now) ok _ is
 
-pub returns-in-Found : goal.returns-in-Found
-returns-in-Found c =
+pub write_spares-requires : goal.write_spares-requires
+write_spares-requires c =
     let a = c.args in
-    let call = call_on a.mode a.minutes a.allowance a.watts.now a.fuels.now a.energies.now a.limits.now a.quiet.now a.table.now a.spare.now in
-    let came = c.check-checked.ensures in
-    let ok = accepted-call call came c.in-Accepted.is in
-    let is = accepted-plan call came c.in-Accepted.is in
+    let came = sym c.in_ok-plan.was ∙ c.check.ensures in
+    let ok = accepted-call a.lists a.table.now a.spare.now came in
+    let is = accepted-plan a.lists a.table.now a.spare.now came in
+    let call = call_of a.lists a.table.now a.spare.now in
+    let found : c.answer-answer.result.outcome ≡ Found = search rules in
+    record {
+      minutes = answered-most call ok _ is c.answer-answer.ensures;
+      table = c.answer-answer.auto.table ∙ cells-lent call ok _ is;
+      serves = answered-serves call ok _ is c.answer-answer.ensures found;
+      spare = spares-lent call ok _ is;
+    }
+
+pub returns-then-eq : goal.returns-then-eq
+returns-then-eq c =
+    let a = c.args in
+    let came = sym c.in_ok-plan.was ∙ c.check.ensures in
+    let ok = accepted-call a.lists a.table.now a.spare.now came in
+    let is = accepted-plan a.lists a.table.now a.spare.now came in
+    let call = call_of a.lists a.table.now a.spare.now in
+    let found : c.answer-answer.result.outcome ≡ Found = search rules in
     promised _
-    (answered-result call ok _ is c.plan-answer.ensures)
-    (answered-table call ok _ is c.plan-answer.ensures)
-    (answered-spare call ok _ is c.plan-answer.ensures c.in-Found.is c.write.ensures)
+    (answered-result call ok _ is c.answer-answer.ensures)
+    (answered-table call ok _ is c.answer-answer.ensures)
+    (answered-spare call ok _ is c.answer-answer.ensures found c.write_spares.ensures)
 
-pub returns-in_default : goal.returns-in_default
-returns-in_default c =
+pub returns-else-eq : goal.returns-else-eq
+returns-else-eq c =
     let a = c.args in
-    let call = call_on a.mode a.minutes a.allowance a.watts.now a.fuels.now a.energies.now a.limits.now a.quiet.now a.table.now a.spare.now in
-    let came = c.check-checked.ensures in
-    let ok = accepted-call call came c.in-Accepted.is in
-    let is = accepted-plan call came c.in-Accepted.is in
+    let came = sym c.in_ok-plan.was ∙ c.check.ensures in
+    let ok = accepted-call a.lists a.table.now a.spare.now came in
+    let is = accepted-plan a.lists a.table.now a.spare.now came in
+    let call = call_of a.lists a.table.now a.spare.now in
+    let other : c.answer-answer.result.outcome ≢ Found = search rules in
     promised _
-    (answered-result call ok _ is c.plan-answer.ensures)
-    (answered-table call ok _ is c.plan-answer.ensures)
-    (kept-unless-found call ok _ is c.plan-answer.ensures c.in_default.not-Found)
+    (answered-result call ok _ is c.answer-answer.ensures)
+    (answered-table call ok _ is c.answer-answer.ensures)
+    (kept-unless-found call ok _ is c.answer-answer.ensures other)

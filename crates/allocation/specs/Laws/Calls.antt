@@ -2,10 +2,9 @@
 -- Assumes nothing.
 use Rattle.std.proofs.Math.Path.{◌≡◌, refl, sym, ap}
 use Rattle.std.proofs.Common.{◌∙◌}
-use Rattle.std.specs.Prelude.{◌≢◌, List, ℕ, ◌*◌, ◌≤◌}
+use Rattle.std.specs.Prelude.{◌≢◌, List, ℕ, ◌*◌, ◌≤◌, Ok}
 use Rattle.std.proofs.Math.ListN.{length}
 use native.Mathlib.Omega.{arith}
-use Rattle.planning.specs.declared.Allocation.TheVariants.{Answered}
 use Rattle.planning.specs.declared.Answer.{Answer}
 use Rattle.planning.specs.declared.Outcome.TheVariants.{Found}
 use Rattle.planning.specs.declared.Plan.{Plan as ByValue}
@@ -46,9 +45,9 @@ module _ (call : Call) (ok : Accepted call) (p : ByValue) (is : plan_in p ≡ pl
     answer-is : answer ≡ answer_of (planned (plan_of call))
     answer-is = answers.answer ∙ ap (λ (plan : Plan). answer_of (planned plan)) is
 
-    pub answered-result : Answered answer ≡ allocation call
+    pub answered-result : Ok answer ≡ allocation call
     unfolding allocation answered_by
-    answered-result = ap Answered answer-is ∙ ap (answered_by call) (sym ((unrefused-iff call).1 ok))
+    answered-result = ap Ok answer-is ∙ ap (answered_by call) (sym ((unrefused-iff call).1 ok))
 
     table_is : table ≡ written (planned (plan_of call)).result call.table
     table_is = answers.table ∙ ap (λ (plan : Plan). written (planned plan).result call.table) is

@@ -1,12 +1,13 @@
 -- How many minutes each engine runs, span by span: a span takes its own minutes off its engine, and the others keep theirs.
 -- Assumes nothing.
-use Rattle.std.specs.Prelude.{◌≡◌, ℕ, suc, ◌+◌, ◌-◌, ◌*◌, ◌/◌, ◌≤◌, ◌<◌, min, length, set, replicate}
+use Rattle.std.specs.Prelude.{◌≡◌, ℕ, suc, ◌+◌, ◌-◌, ◌*◌, ◌/◌, ◌≤◌, ◌<◌, min, length, get_or, set, replicate}
 use Rattle.std.proofs.Common.{sym, ◌∙◌, arith}
 use Rattle.std.proofs.Math.Path.{ap}
 use mathlib.Core.List.{List, [], ◌∷◌, ◌++◌}
+use Rattle.planning.specs.declared.EngineFigures.{EngineFigures}
 use Rattle.planning.specs.declared.Engines.{Engines}
 use Rattle.planning.specs.Bounds.{most_engines}
-use Rattle.planning.specs.ByValue.{quiet_in, engine_in, engines_in}
+use Rattle.planning.specs.ByValue.{no_figures, quiet_in, engine_in, engines_in}
 use Rattle.planning.specs.Capacity.{capacity, each_capacity}
 use Rattle.planning.proofs.Laws.All.{all_more}
 use Rattle.planning.proofs.Laws.ByValue.{capacity_in}
@@ -58,7 +59,8 @@ module _ (quiet : List Quiet) (q : Quiet) (kept : QuietKept most_engines (quiet 
         (omega (arith, running-at quiet T a inside, takes))))
 
 -- so an engine's capacity is the smaller of its fuel and of its watts for the minutes it runs
-pub capacity-runs : (e : Engines) (T i : ℕ) → i < e.count → e.count ≤ most_engines → {runs : List ℕ} → runs ≡ running_each (quiet_in e.quiet) T
-    → min (at e.fuel i) (at e.watts i * at runs i / 60) ≡ at (each_capacity (engines_in e) T) i
+pub capacity-runs : (e : Engines) (T i : ℕ) → i < e.count → e.count ≤ most_engines → {figures : EngineFigures} → figures ≡ get_or e.figures i no_figures
+    → {runs : List ℕ} → runs ≡ running_each (quiet_in e.quiet) T
+    → min figures.fuel (figures.watts * at runs i / 60) ≡ at (each_capacity (engines_in e) T) i
 unfolding engine_in capacity
-capacity-runs e T i l most is = rw (is, running-at (quiet_in e.quiet) T i (omega arith), capacity_in e T i l)
+capacity-runs e T i l most has is = rw (has, is, running-at (quiet_in e.quiet) T i (omega arith), capacity_in e T i l)

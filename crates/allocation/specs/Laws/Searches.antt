@@ -1,6 +1,6 @@
 -- The search of a plan by value for some minutes: what is lent to it is in its range and makes up the plan's search.
 -- Assumes nothing.
-use Rattle.std.specs.Prelude.{◌≡◌, List, ℕ, ◌*◌, ◌≤◌, ◌<◌, length, take}
+use Rattle.std.specs.Prelude.{◌≡◌, List, ℕ, ◌*◌, ◌≤◌, ◌<◌, length, take, Result as Returned, Ok, IsOk}
 use Rattle.std.proofs.Math.Path.{sym}
 use Rattle.std.proofs.Common.{ap, ◌∙◌, length-take-le, get_or-take, mul-le-mul, arith}
 use Rattle.planning.specs.declared.Deliveries.{Deliveries}
@@ -15,6 +15,7 @@ use Rattle.planning.specs.Modes.{search_at}
 use Rattle.planning.specs.Plan.{Within}
 use Rattle.planning.specs.Tables.{at, padded}
 use Rattle.search.specs.declared.Ended.{Ended}
+use Rattle.search.specs.declared.OutOfRange.{OutOfRange}
 use Rattle.search.specs.Promises.{AllWithin, InSearchRange, Answers as SearchAnswers}
 use Rattle.allocation.specs.Ends.{Ends}
 
@@ -95,11 +96,14 @@ module _ {p : ByValue} (u : Usable p) (T : ℕ) {amounts : List ℕ} (are : amou
       }
 
   -- and the search on it is the plan's
-  pub search_ends : {r : Ended} {left : List ℕ}
-      → SearchAnswers (take p.engines.count amounts) (take p.deliveries.count p.deliveries.energy)
-      (take p.deliveries.count p.deliveries.limit) p.allowance lent r left
-      → Ends (search_at (plan_in p) T) lent r left
-  unfolding search_at capacities plan_in
-  search_ends answers =
-      let told = rw (front-amounts u.engines T are, ← energies_in u, ← limits_in u) at (answers.in_range lent_in_range) in
-      record { ended = told.0; table = told.1 }
+  module _ {r : Returned Ended OutOfRange} {left : List ℕ}
+      (answers : SearchAnswers (take p.engines.count amounts) (take p.deliveries.count p.deliveries.energy)
+      (take p.deliveries.count p.deliveries.limit) p.allowance lent r left) where
+    pub search-begins : IsOk r
+    search-begins = rw (answers.in_range lent_in_range).0
+
+    pub search_ends : {ended : Ended} → r ≡ Ok ended → Ends (search_at (plan_in p) T) lent ended left
+    unfolding search_at capacities plan_in
+    search_ends e =
+        let told = rw (front-amounts u.engines T are, ← energies_in u, ← limits_in u) at (answers.in_range lent_in_range) in
+        record { ended = cc (told.0, e); table = told.1 }

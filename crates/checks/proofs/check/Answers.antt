@@ -1,31 +1,25 @@
 -- By the verdict of the refusals.
+use Rattle.std.proofs.Common.{sym, ◌∙◌}
+use Rattle.std.proofs.lemmas.Result.{err_from_is_err_and}
 use Rattle.planning.specs.ByValue.{by_value}
 use Rattle.planning.proofs.Laws.ByValue.{by-value-usable}
-use Rattle.planning.proofs.Laws.Numbers.{unrefused-iff}
-use Rattle.planning.specs.Numbers.{Call, Accepted}
 use Rattle.checks.specs.Checked.{call_lent}
-use Rattle.checks.specs.Laws.Checked.{by-refusal, by_acceptance, unrefused-by}
+use Rattle.checks.specs.Laws.Checked.{accepted, by-refusal, by_acceptance}
 use Rattle.checks.proofs.check.Goals as goal
 
-pub plan_of-plan-requires : goal.plan_of-plan-requires
-unfolding by_value
-plan_of-plan-requires c =
-    let a = c.args in
-    let call : Call = call_lent a.mode a.minutes a.allowance a.watts.now a.fuels.now a.energies.now a.limits.now a.quiet.now a.table a.spare in
-    let ok : Accepted call = (unrefused-iff _).0 (unrefused-by call c.refusal-verdict.ensures c.in-Accepted.is) in
-    (ok.engine_lists, ok.delivery_lists, ok.quiet_threes, by-value-usable call ok)
+pub returns-in_err-refusal : goal.returns-in_err-refusal
+returns-in_err-refusal c =
+    let p = err_from_is_err_and c.from_residual.result c.from_residual.ensures.1 in
+    rw (p.1, p.2) (by-refusal _ (sym c.in_err-refusal.was ∙ c.refusal.ensures))
 
-pub returns-in-Refused : goal.returns-in-Refused
-returns-in-Refused c =
-    let a = c.args in
-    by-refusal
-    (call_lent a.mode a.minutes a.allowance a.watts.now a.fuels.now a.energies.now a.limits.now a.quiet.now a.table a.spare)
-    c.refusal-verdict.ensures c.in-Refused.is c.no_plan-plan.ensures
-
-pub returns-in-Accepted : goal.returns-in-Accepted
+pub plan_of-requires : goal.plan_of-requires
 unfolding by_value
-returns-in-Accepted c =
-    let a = c.args in
-    by_acceptance
-    (call_lent a.mode a.minutes a.allowance a.watts.now a.fuels.now a.energies.now a.limits.now a.quiet.now a.table a.spare)
-    c.refusal-verdict.ensures c.in-Accepted.is c.plan_of-plan.ensures
+plan_of-requires c =
+    let call = call_lent c.args.lists c.args.table c.args.spare in
+    let ok = accepted call (sym c.in_ok-refusal.was ∙ c.refusal.ensures) in
+    record { engines = ok.engine_lists; deliveries = ok.delivery_lists; threes = ok.quiet_threes; usable = by-value-usable call ok }
+
+pub returns : goal.returns
+unfolding by_value
+returns c =
+    by_acceptance (call_lent c.args.lists c.args.table c.args.spare) (sym c.in_ok-refusal.was ∙ c.refusal.ensures) c.plan_of.ensures

@@ -1,9 +1,10 @@
 -- What a field that was read where it begins in a file says of the bytes and of the record from there on. Assumes nothing.
-use Rattle.std.specs.Prelude.{◌≡◌, Bool, false, cond, ℕ, suc, ◌+◌, ◌≤◌}
+use Rattle.std.specs.Prelude.{◌≡◌, Bool, false, cond, ℕ, suc, ◌+◌, ◌≤◌, Some, None}
 use Rattle.std.proofs.Math.Path.{refl, ap}
 use Rattle.std.proofs.Common.{sym, ◌∙◌, subst, true≢false}
 use Rattle.std.proofs.Math.Bool.{true}
 use Rattle.std.proofs.lemmas.Bool.{false≢true}
+use Rattle.std.proofs.lemmas.Option.{none-some}
 use Rattle.std.proofs.Math.Option.{Option, none, some, map}
 use mathlib.Core.List.{List, [], ◌∷◌, ◌++◌, append_assoc, append-nil}
 use native.Mathlib.Omega.{arith}
@@ -20,27 +21,27 @@ use Rattle.rfc4180.proofs.Laws.Quotes.{prefixed, byte_passed, unbroken_passed, f
 use Rattle.rfc4180.proofs.Laws.Records.{first_record_ended, first_record_last, joined-raw, raw-last, raw-more}
 use Rattle.rfc4180.proofs.Laws.Files.{ending, first_record_bytes}
 use Rattle.csv_fields.specs.Promises.{Separator, file-ends, comma-follows, record_ends, FieldAt}
-use Rattle.csv_fields.specs.Spans.{sound_field, holds_quote, doubled_in, span_from, record_span, read_by, first_read, field_read}
+use Rattle.csv_fields.specs.Spans.{told_field, sound_field, holds_quote, doubled_in, span_from, record_span, read_by, first_read, field_read}
 use Rattle.csv_fields.specs.Laws.Parts.{doubled-told}
 
 -- ---- no field of the grammar
 
-broken-by : (at : ℕ) (raws : List (List ℕ)) (behind : Option (List ℕ)) → NonEmpty raws → (first_read doubled_in at raws behind).sound ≡ false
+broken-by : (at : ℕ) (raws : List (List ℕ)) (behind : Option (List ℕ)) → NonEmpty raws → first_read doubled_in at raws behind ≡ None
     → read_all field_value raws ≡ none
 unfolding first_read read_all read_by and_then doubled_in
 broken-by at [] behind n e = absurd n
 broken-by at (raw ∷ others) behind n e = go (field_value raw) others behind (read_all field_value others) e
   where
     go : (o : Option (List ℕ)) (others : List (List ℕ)) (behind : Option (List ℕ)) (values : Option (List (List ℕ)))
-        → (read_by (map holds_quote o) (at + length raw) others behind).sound ≡ false → and_then o values ≡ none
+        → read_by (map holds_quote o) (at + length raw) others behind ≡ None → and_then o values ≡ none
     go none others behind values e = refl
-    go (some value) [] none values e = absurd (true≢false e)
-    go (some value) [] (some rest) values e = absurd (true≢false e)
-    go (some value) (next ∷ others) behind values e = absurd (true≢false e)
+    go (some value) [] none values e = absurd (none-some _ (sym e))
+    go (some value) [] (some rest) values e = absurd (none-some _ (sym e))
+    go (some value) (next ∷ others) behind values e = absurd (none-some _ (sym e))
 
 module _ (file : List ℕ) (at : ℕ) where
   -- the record from there on breaks the grammar
-  pub broken_record : (field_read file at).sound ≡ false → field_values (first_record (drop at file)).text ≡ none
+  pub broken_record : field_read file at ≡ None → field_values (first_record (drop at file)).text ≡ none
   unfolding field_read field_values raw_fields
   broken_record e =
       broken-by at (raw_fields (first_record (drop at file)).text) (first_record (drop at file)).behind
@@ -109,18 +110,19 @@ module _ (file : List ℕ) (at : ℕ) where
             follows = record_ends;
           }
 
-  stands_by : (raws : List (List ℕ)) → raw_fields text-there ≡ raws → (first_read doubled_in at raws behind-there).sound ≡ true → FieldAt file at
+  stands_by : {read : FieldRead} (raws : List (List ℕ)) → raw_fields text-there ≡ raws → first_read doubled_in at raws behind-there ≡ Some read
+      → FieldAt file at
   unfolding first_read read_by doubled_in
-  stands_by [] e sound = absurd (false≢true sound)
-  stands_by (raw ∷ others) e sound = go (field_value raw) refl others e sound
+  stands_by [] e sound = absurd (none-some _ sound)
+  stands_by {read} (raw ∷ others) e sound = go (field_value raw) refl others e sound
     where
       go : (o : Option (List ℕ)) → field_value raw ≡ o → (others : List (List ℕ)) → raw_fields text-there ≡ raw ∷ others
-          → (read_by (map holds_quote o) (at + length raw) others behind-there).sound ≡ true → FieldAt file at
-      go none v others e sound = absurd (false≢true sound)
+          → read_by (map holds_quote o) (at + length raw) others behind-there ≡ Some read → FieldAt file at
+      go none v others e sound = absurd (none-some _ sound)
       go (some value) v (next ∷ others) e sound = more-stands raw value next others e v
       go (some value) v [] e sound = last-stands raw value e v
 
-  pub sound-stands : (field_read file at).sound ≡ true → FieldAt file at
+  pub sound-stands : {read : FieldRead} → field_read file at ≡ Some read → FieldAt file at
   unfolding field_read
   sound-stands sound = stands_by _ refl sound
 
@@ -143,11 +145,11 @@ before-others raw doubled at (next ∷ others) behind n e = rw e
 
 -- what is told of it
 abbrev told_of : (at : ℕ) → (raw value : List ℕ) → (size : ℕ) → (more : Bool) → FieldRead
-told_of at raw value size more = sound_field (at + length raw) (at + length raw + size) more (holds_quote value)
+told_of at raw value size more = told_field (at + length raw) (at + length raw + size) more (holds_quote value)
 
 module _ (file : List ℕ) (at : ℕ) where
   read-by : {raw value rest : List ℕ} {size : ℕ} {more : Bool} → Field raw value → Separator rest size more → drop at file ≡ raw ++ rest
-      → field_read file at ≡ told_of at raw value size more
+      → field_read file at ≡ Some (told_of at raw value size more)
   unfolding field_read first_read read_by
   read-by {raw} r file-ends e =
       let z : at + length raw + 0 ≡ at + length raw = omega arith in
@@ -157,7 +159,7 @@ module _ (file : List ℕ) (at : ℕ) where
       (before-others raw _ at (raw_fields (first_record rest).text) _ (unfold raw_fields in raw_non_empty true (first_record rest).text) (doubled-told r))
   read-by {raw} r (record_ends {rest = rest}) e = rw (e, first_record_ended (record_last r) rest, raw-last r, doubled-told r)
 
-  pub stands_read : (f : FieldAt file at) → field_read file at ≡ told_of at f.raw f.value f.size f.more
+  pub stands_read : (f : FieldAt file at) → field_read file at ≡ Some (told_of at f.raw f.value f.size f.more)
   stands_read f = read-by f.field f.follows f.bytes
 
 -- ---- the record from there on
@@ -247,7 +249,9 @@ module _ (file : List ℕ) (at : ℕ) {raw value : List ℕ} (r : Field raw valu
       at-end 2 (rw first) (rw first, rw first)
 
 -- what a field that was read says of the record from there on
-pub field_told : (file : List ℕ) (at : ℕ) → (field_read file at).sound ≡ true → ReadAt file at (field_read file at)
-field_told file at sound =
+pub field_told : (file : List ℕ) (at : ℕ) {read : FieldRead} → field_read file at ≡ Some read → ReadAt file at read
+field_told file at {read} sound =
     let f = sound-stands file at sound in
-    subst (ReadAt file at) (sym (stands_read file at f)) (told-by file at f.field f.follows f.bytes)
+    let told : Some (told_of at f.raw f.value f.size f.more) ≡ Some read = sym (stands_read file at f) ∙ sound in
+    let same : told_of at f.raw f.value f.size f.more ≡ read = cc in
+    subst (ReadAt file at) same (told-by file at f.field f.follows f.bytes)

@@ -1,28 +1,28 @@
 -- The clauses of the promises follow from the definitions that the results equal. Assumes nothing.
 use Rattle.std.proofs.Math.Path.{◌≡◌, refl}
 use Rattle.std.proofs.Common.{sym, ap, ◌∙◌, subst, true≢false, arith, length-append, length-drop}
-use Rattle.std.specs.Prelude.{Bool, List, [], ◌∷◌, ◌++◌, ℕ, ◌+◌, ◌≤◌, ◌<◌, drop}
+use Rattle.std.specs.Prelude.{Bool, List, [], ◌∷◌, ◌++◌, ℕ, ◌+◌, ◌≤◌, ◌<◌, drop, Some, None, Ok, Err}
 use Rattle.std.proofs.Math.Bool.{true, false, cond}
 use Rattle.std.proofs.lemmas.Bool.{false≢true}
+use Rattle.std.proofs.lemmas.Option.{none-some}
 use Rattle.std.proofs.Math.Option.{Option, none, some, none-ne-some}
 use Rattle.std.proofs.Math.Dec.{leb}
 use Rattle.std.proofs.Math.ListN.{length}
 use borrow.Author.Tests.{le-leb, lt-leb, leb-true}
-use Rattle.csv_fields.specs.declared.FieldForm.{FieldForm}
-use Rattle.csv_fields.specs.declared.FieldForm.TheVariants as form
+use Rattle.csv_fields.specs.declared.FieldForm.TheVariants.{Part, Doubled}
 use Rattle.csv_fields.specs.declared.FieldRead.{FieldRead}
 use Rattle.csv_fields.specs.declared.FieldSpan.{FieldSpan}
 use Rattle.csv_fields.specs.declared.RecordSpan.{RecordSpan}
-use Rattle.csv_fields.specs.declared.Undone.{Undone}
-use Rattle.csv_fields.specs.declared.Undone.TheVariants as undoing
+use Rattle.csv_fields.specs.declared.UndoError.TheVariants.{TooLong, Broken}
 use Rattle.rfc4180.specs.Bytes.{comma, carriage_return, line_feed}
 use Rattle.rfc4180.specs.Grammar.{Field}
 use Rattle.rfc4180.specs.Fields.{raw_fields, field_value}
 use Rattle.rfc4180.proofs.Laws.Fields.{field_complete, field-sound, field_unique}
 use Rattle.rfc4180.proofs.Laws.Quotes.{NonEmpty, raw_non_empty}
 use Rattle.rfc4180.proofs.Laws.Records.{first_record_ended, first_record_last, raw-last, raw-more}
-use Rattle.csv_fields.specs.Spans.{span_from, record_span, field_from, field_span, field_read, read_by, first_read, broken_field, holds_quote, doubled_in, inside_of, form_by, form_of, undone_by, undone, undone_on_exit_by, undone_on_exit}
-use Rattle.csv_fields.specs.Promises.{Separator, file-ends, comma-follows, record_ends, ReadsField, EndsRecord, EndsField, HasForm, HandsPart, Undoes}
+use Rattle.csv_fields.specs.Results.{Reading, Form, Undone}
+use Rattle.csv_fields.specs.Spans.{span_from, record_span, field_from, field_span, field_read, told_field, holds_quote, doubled_in, inside_of, form_by, form_of, undone_by, undone, undone_on_exit_by, undone_on_exit}
+use Rattle.csv_fields.specs.Promises.{Separator, file-ends, comma-follows, record_ends, FieldAt, ReadsField, EndsRecord, EndsField, HasForm, HandsPart, Undoes}
 use Rattle.csv_fields.specs.Laws.FieldReads.{sound-stands, stands_read}
 use Rattle.csv_fields.specs.Laws.Parts.{field-part, doubled-told, doubled-quote}
 use Rattle.csv_fields.specs.Laws.RecordSpans.{record_stands}
@@ -30,18 +30,12 @@ use Rattle.csv_fields.specs.Laws.Spans.{field-within}
 
 -- ---- reading a field
 
-unsound_broken : (doubled : List ℕ → Option Bool) (at : ℕ) (raws : List (List ℕ)) (behind : Option (List ℕ))
-    → (first_read doubled at raws behind).sound ≡ false → first_read doubled at raws behind ≡ broken_field
-unfolding first_read read_by
-unsound_broken doubled at [] behind e = refl
-unsound_broken doubled at (raw ∷ others) behind e = go (doubled raw) others behind e
-  where
-    go : (o : Option Bool) (others : List (List ℕ)) (behind : Option (List ℕ)) → (read_by o (at + length raw) others behind).sound ≡ false
-        → read_by o (at + length raw) others behind ≡ broken_field
-    go none others behind e = refl
-    go (some d) [] none e = absurd (true≢false e)
-    go (some d) [] (some rest) e = absurd (true≢false e)
-    go (some d) (next ∷ others) behind e = absurd (true≢false e)
+-- of a field that stands there all is told that is read
+told_is : (file : List ℕ) (from : ℕ) (f : FieldAt file from) {read : FieldRead} → field_read file from ≡ Some read
+    → told_field (from + length f.raw) (from + length f.raw + f.size) f.more (holds_quote f.value) ≡ read
+told_is file from f {read} e =
+    let told = sym (stands_read file from f) ∙ e in
+    cc
 
 module _ (file : List ℕ) (from : ℕ) (inside : from ≤ length file) where
   within_by : {rest : List ℕ} {size : ℕ} {more : Bool} (raw : List ℕ) → Separator rest size more → drop from file ≡ raw ++ rest
@@ -62,27 +56,40 @@ module _ (file : List ℕ) (from : ℕ) (inside : from ≤ length file) where
       let left = length-drop from file in
       (omega arith, omega arith, omega arith, λ m. absurd (false≢true m), λ h. omega arith)
 
-  read-within : let r = field_read file from in r.sound ≡ true
-      → (from ≤ r.end) × (r.end ≤ r.next) × (r.next ≤ length file)
-      × (r.more ≡ true → r.end < r.next)
-      × (from < length file → from < r.next)
-  read-within sound =
+  read-within : (read : FieldRead) → field_read file from ≡ Some read
+      → (from ≤ read.end) × (read.end ≤ read.next) × (read.next ≤ length file)
+      × (read.more ≡ true → read.end < read.next)
+      × (from < length file → from < read.next)
+  read-within read sound =
       let f = sound-stands file from sound in
-      rw (stands_read file from f) (within_by f.raw f.follows f.bytes)
+      rw (← told_is file from f sound) (within_by f.raw f.follows f.bytes)
 
-reads_defined : (file : List ℕ) (from : ℕ) → ReadsField file from (field_read file from)
-unfolding field_read
-reads_defined file from =
+reads_by : (file : List ℕ) (from : ℕ) (r : Reading) → field_read file from ≡ r → ReadsField file from r
+reads_by file from None e =
+    let never : FieldAt file from → ⊥ = λ f. none-some _ (sym e ∙ stands_read file from f) in
     record {
-      equals = refl;
-      sound = (sound-stands file from, λ f. ap (λ (r : FieldRead). r.sound) (stands_read file from f));
-      told = stands_read file from;
-      doubled = λ f. rw (ap (λ (r : FieldRead). r.doubled) (stands_read file from f)) (doubled-quote f.field);
-      broken = unsound_broken doubled_in from _ _;
-      within = read-within file from;
+      equals = sym e;
+      sound = (λ some. absurd (false≢true some), λ f. absurd (never f));
+      told = λ f. absurd (never f);
+      doubled = λ f. absurd (never f);
+      broken = (λ none. never, λ none. refl);
+      within = λ inside read some. absurd (none-some _ some);
+    }
+reads_by file from (Some read) e =
+    let f = sound-stands file from e in
+    record {
+      equals = sym e;
+      sound = (λ some. f, λ f. refl);
+      told = λ f. sym e ∙ stands_read file from f;
+      doubled = λ f other some. rw (← told_is file from f (e ∙ some)) (doubled-quote f.field);
+      broken = (λ none. absurd (none-some _ (sym none)), λ never. absurd (never f));
+      within = λ inside other some. read-within file from inside other (e ∙ some);
     }
 
-pub reads-field : (file : List ℕ) (from : ℕ) {r : FieldRead} → r ≡ field_read file from → ReadsField file from r
+reads_defined : (file : List ℕ) (from : ℕ) → ReadsField file from (field_read file from)
+reads_defined file from = reads_by file from (field_read file from) refl
+
+pub reads-field : (file : List ℕ) (from : ℕ) {r : Reading} → r ≡ field_read file from → ReadsField file from r
 reads-field file from e = subst (ReadsField file from) (sym e) (reads_defined file from)
 
 -- ---- records and fields
@@ -130,7 +137,7 @@ module _ (raw : List ℕ) where
   one_value : {v w : List ℕ} → Field raw v → Field raw w → holds_quote v ≡ true → holds_quote w ≡ false → ⊥
   one_value r s p q = true≢false (sym p ∙ ap holds_quote (field_unique r s) ∙ q)
 
-  none_form : field_value raw ≡ none → HasForm raw form.Broken
+  none_form : field_value raw ≡ none → HasForm raw None
   unfolding form_of form_by doubled_in
   none_form e =
       record {
@@ -161,17 +168,17 @@ module _ (raw : List ℕ) where
   has_form_by none e = let form = none_form e in subst (HasForm raw) form.equals form
   has_form_by (some value) e = let form = field_form (holds_quote value) refl (field-sound raw value e) in subst (HasForm raw) form.equals form
 
-pub has_form : (raw : List ℕ) {r : FieldForm} → r ≡ form_of raw → HasForm raw r
+pub has_form : (raw : List ℕ) {r : Form} → r ≡ form_of raw → HasForm raw r
 has_form raw e = subst (HasForm raw) (sym e) (has_form_by raw (field_value raw) refl)
 
 -- a raw field that is not broken is a field of the grammar
-pub formed : (raw : List ℕ) {r : FieldForm} → HasForm raw r → (r ≡ form.Broken → ⊥) → (value : List ℕ) × Field raw value
+pub formed : (raw : List ℕ) {r : Form} → HasForm raw r → (r ≡ None → ⊥) → (value : List ℕ) × Field raw value
 formed raw {r} h other = go r refl
   where
-    go : (k : FieldForm) → r ≡ k → (value : List ℕ) × Field raw value
-    go form.Broken e = absurd (other e)
-    go form.Part e = let found = h.part.0 e in (found.0, found.1)
-    go form.Doubled e = let found = h.doubled.0 e in (found.0, found.1)
+    go : (k : Form) → r ≡ k → (value : List ℕ) × Field raw value
+    go None e = absurd (other e)
+    go (Some Part) e = let found = h.part.0 e in (found.0, found.1)
+    go (Some Doubled) e = let found = h.doubled.0 e in (found.0, found.1)
 
 -- ---- the values of fields
 
@@ -179,17 +186,17 @@ pub hands_part : (raw : List ℕ) {part : List ℕ} → part ≡ inside_of raw �
 hands_part raw e = record { equals = e; value = λ r q. e ∙ field-part r q }
 
 module _ (raw lent : List ℕ) where
-  fits_by : (value : Option (List ℕ)) (n : ℕ) → undone_by value (length lent) ≡ undoing.Length n → n ≤ length lent
+  fits_by : (value : Option (List ℕ)) (n : ℕ) → undone_by value (length lent) ≡ Ok n → n ≤ length lent
   unfolding undone_by
   fits_by none n e = let z : ◌≡◌ {A = ℕ} 0 1 = cc in absurd (omega arith)
   fits_by (some value) n e = go (leb (length value) (length lent)) refl e
     where
-      go : (t : Bool) → leb (length value) (length lent) ≡ t → cond t (undoing.Length (length value)) undoing.TooLong ≡ undoing.Length n → n ≤ length lent
+      go : (t : Bool) → leb (length value) (length lent) ≡ t → cond t (Ok (length value)) (Err TooLong) ≡ Ok n → n ≤ length lent
       go true p e = let m : length value ≡ n = cc in omega (arith, leb-true (length value) (length lent) p)
       go false p e = let z : ◌≡◌ {A = ℕ} 0 1 = cc in absurd (omega arith)
 
   kept_by : (value : Option (List ℕ)) → field_value raw ≡ value → ((v : List ℕ) → Field raw v → ⊥)
-      → (undone_by value (length lent) ≡ undoing.Broken) × (undone_on_exit_by value lent ≡ lent)
+      → (undone_by value (length lent) ≡ Err Broken) × (undone_on_exit_by value lent ≡ lent)
   unfolding undone_by undone_on_exit_by
   kept_by none e never = (refl, refl)
   kept_by (some value) e never = absurd (never value (field-sound raw value e))

@@ -12,10 +12,10 @@ use Rattle.std.proofs.Math.Dec.{eqb}
 use Rattle.std.proofs.Math.ListN.{drop}
 use Rattle.rfc4180.specs.declared.ByteClass.{ByteClass}
 use Rattle.rfc4180.specs.declared.ByteClass.TheVariants.{Text, Quote, Comma, CarriageReturn, LineFeed, Refused}
-use Rattle.csv_fields.specs.declared.FieldRead.{FieldRead}
 use Rattle.rfc4180.specs.Bytes.{quote, comma, carriage_return, line_feed, class_of}
 use Rattle.rfc4180.specs.Records.{outside_after, behind_end, ended_or, first_from, first_record}
 use Rattle.rfc4180.specs.Fields.{cut_or, raw_fields_from, raw_fields, is_text, all_text, escaped_byte, escaped_value, field_value}
+use Rattle.csv_fields.specs.Results.{Reading}
 use Rattle.csv_fields.specs.Reader.{begins_with, end_by, end_read, plain_read, inside_read, quoted_read}
 use Rattle.csv_fields.specs.Spans.{before_comma, before_record_end, with_file, broken_field, holds_quote, doubled_in, read_by, first_read, field_read}
 use Rattle.rfc4180.proofs.Laws.Classes.{class_number, class_means, other_byte}
@@ -25,7 +25,7 @@ use Rattle.csv_fields.specs.Laws.Spans.{no_end}
 use Rattle.csv_fields.specs.Laws.Undoubling.{text_no_quotes}
 
 -- the first raw field of the rest of a record, which is or is not outside quotes, by what says whether it holds a doubled quote
-abbrev read_from : (doubled : List ℕ → Option Bool) → (outside : Bool) → (at : ℕ) → (bytes : List ℕ) → FieldRead
+abbrev read_from : (doubled : List ℕ → Option Bool) → (outside : Bool) → (at : ℕ) → (bytes : List ℕ) → Reading
 read_from doubled outside at bytes =
     first_read doubled at (raw_fields_from outside (first_from outside bytes).text) (first_from outside bytes).behind
 
@@ -90,7 +90,7 @@ module _ (v : List ℕ → Option Bool) (doubled : Bool) (empty : v [] ≡ some 
   unfolding first_from raw_fields_from first_read read_by behind_end ended_or
   at_record_end rest = let z : at + 0 ≡ at = omega arith in rw (empty, z)
 
-  at_cr : (rest : List ℕ) (text : FieldRead) → ((raw : List ℕ) → v (carriage_return ∷ raw) ≡ none)
+  at_cr : (rest : List ℕ) (text : Reading) → ((raw : List ℕ) → v (carriage_return ∷ raw) ≡ none)
       → read_from v true at (carriage_return ∷ rest) ≡ end_by CarriageReturn (begins_with line_feed rest) at doubled text
   unfolding end_by begins_with behind_end
   at_cr [] text never = breaks v at carriage_return [] never refl refl
@@ -101,7 +101,7 @@ module _ (v : List ℕ → Option Bool) (doubled : Bool) (empty : v [] ≡ some 
       go false e = breaks v at carriage_return (c ∷ rest) never (rw e) refl
 
   -- the byte at which a field may end decides by its class, where no byte but text can go on
-  byte_ends : (b : ℕ) (rest : List ℕ) (text : FieldRead) → (class_of b ≡ Text → read_from v true at (b ∷ rest) ≡ text)
+  byte_ends : (b : ℕ) (rest : List ℕ) (text : Reading) → (class_of b ≡ Text → read_from v true at (b ∷ rest) ≡ text)
       → (is_text (class_of b) ≡ false → (raw : List ℕ) → v (b ∷ raw) ≡ none)
       → read_from v true at (b ∷ rest) ≡ end_by (class_of b) (begins_with line_feed rest) at doubled text
   unfolding end_by is_text class_of

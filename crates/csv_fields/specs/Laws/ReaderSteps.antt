@@ -5,8 +5,8 @@ use Rattle.std.proofs.Common.{◌∙◌, arith, drop_of_length-le, drop-drop, eq
 use Rattle.std.proofs.lemmas.Bool.{false≢true}
 use Rattle.rfc4180.specs.declared.ByteClass.{ByteClass}
 use Rattle.rfc4180.specs.declared.ByteClass.TheVariants.{Text, Quote, Comma, CarriageReturn, LineFeed, Refused}
-use Rattle.csv_fields.specs.declared.FieldRead.{FieldRead}
 use Rattle.rfc4180.specs.Bytes.{quote, line_feed, class_of}
+use Rattle.csv_fields.specs.Results.{Reading}
 use Rattle.csv_fields.specs.Reader.{begins_with, end_by, end_read, plain_read, inside_read, quoted_read}
 use Rattle.csv_fields.specs.Scans.{is_plain, Found}
 use Rattle.csv_fields.specs.Spans.{before_record_end, broken_field, with_file}
@@ -38,7 +38,7 @@ module _ (bytes : List ℕ) (at b : ℕ) where
 -- ---- one byte
 
 -- the byte at which a field may end goes on where it is text
-end-plain : (k : ByteClass) → is_plain false k ≡ true → (t : Bool) (at : ℕ) (doubled : Bool) (text : FieldRead) → end_by k t at doubled text ≡ text
+end-plain : (k : ByteClass) → is_plain false k ≡ true → (t : Bool) (at : ℕ) (doubled : Bool) (text : Reading) → end_by k t at doubled text ≡ text
 unfolding is_plain end_by
 end-plain Text p t at doubled text = refl
 end-plain Quote p t at doubled text = absurd (false≢true p)
@@ -48,14 +48,14 @@ end-plain LineFeed p t at doubled text = absurd (false≢true p)
 end-plain Refused p t at doubled text = absurd (false≢true p)
 
 -- a CR ends a field where LF follows, and else breaks it
-pub end_cr : {k : ByteClass} → k ≡ CarriageReturn → (t : Bool) (at : ℕ) (doubled : Bool) (text : FieldRead)
+pub end_cr : {k : ByteClass} → k ≡ CarriageReturn → (t : Bool) (at : ℕ) (doubled : Bool) (text : Reading)
     → end_by k t at doubled text ≡ cond t (before_record_end at doubled) broken_field
 unfolding end_by
 end_cr e true at doubled text = rw e
 end_cr e false at doubled text = rw e
 
 -- every byte but a comma and a CR breaks it, where text does
-pub end-broken : (k : ByteClass) → (k ≡ Comma → ⊥) → (k ≡ CarriageReturn → ⊥) → (t : Bool) (at : ℕ) (doubled : Bool) (text : FieldRead)
+pub end-broken : (k : ByteClass) → (k ≡ Comma → ⊥) → (k ≡ CarriageReturn → ⊥) → (t : Bool) (at : ℕ) (doubled : Bool) (text : Reading)
     → (k ≡ Text → text ≡ broken_field) → end_by k t at doubled text ≡ broken_field
 unfolding end_by
 end-broken Text p q t at doubled text e = e refl
@@ -66,7 +66,7 @@ end-broken LineFeed p q t at doubled text e = refl
 end-broken Refused p q t at doubled text e = refl
 
 -- a byte inside quotes goes on where it is plain there
-inside-plain : (k : ByteClass) → is_plain true k ≡ true → (t : Bool) (on pair closed : FieldRead) → inside_read k t on pair closed ≡ on
+inside-plain : (k : ByteClass) → is_plain true k ≡ true → (t : Bool) (on pair closed : Reading) → inside_read k t on pair closed ≡ on
 unfolding is_plain inside_read
 inside-plain Text p t on pair closed = refl
 inside-plain Quote p t on pair closed = absurd (false≢true p)
@@ -76,7 +76,7 @@ inside-plain LineFeed p t on pair closed = absurd (false≢true p)
 inside-plain Refused p t on pair closed = absurd (false≢true p)
 
 -- and where it is allowed there and no quote
-inside-allowed : (k : ByteClass) → (k ≡ Quote → ⊥) → (k ≡ Refused → ⊥) → (t : Bool) (on pair closed : FieldRead) → inside_read k t on pair closed ≡ on
+inside-allowed : (k : ByteClass) → (k ≡ Quote → ⊥) → (k ≡ Refused → ⊥) → (t : Bool) (on pair closed : Reading) → inside_read k t on pair closed ≡ on
 unfolding inside_read
 inside-allowed Text p q t on pair closed = refl
 inside-allowed Quote p q t on pair closed = absurd (p refl)
@@ -86,7 +86,7 @@ inside-allowed LineFeed p q t on pair closed = refl
 inside-allowed Refused p q t on pair closed = absurd (q refl)
 
 -- where no quote follows, a pair is no way
-no_pair : (k : ByteClass) (on pair other closed : FieldRead) → inside_read k false on pair closed ≡ inside_read k false on other closed
+no_pair : (k : ByteClass) (on pair other closed : Reading) → inside_read k false on pair closed ≡ inside_read k false on other closed
 unfolding inside_read
 no_pair Text on pair other closed = refl
 no_pair Quote on pair other closed = refl

@@ -1,6 +1,7 @@
 -- What a scan of text passes and where it stops. Assumes nothing.
-use Rattle.std.specs.Prelude.{◌≡◌, refl, Bool, true, false, not, ◌&&◌, ◌||◌, List, ℕ, zero, suc, ◌+◌, ◌-◌, ◌≤◌, ◌<◌, eqb, leb, ltb, length, get_or}
-use Rattle.std.proofs.Common.{ap, ◌∙◌, arith}
+use Rattle.std.specs.Prelude.{◌≡◌, refl, Bool, true, false, not, ◌&&◌, ◌||◌, List, ℕ, zero, suc, ◌+◌, ◌-◌, ◌≤◌, ◌<◌, eqb, leb, ltb, length, get_or, take, drop}
+use Rattle.std.proofs.lemmas.List.{get_or-take, get_or-drop}
+use Rattle.std.proofs.Common.{ap, ◌∙◌, arith, length-drop, length-take-le}
 use Rattle.std.proofs.Math.Bool.{or-true, or-false}
 use borrow.Author.Tests.{le-leb, leb-true, ltb-true, ltb-false, eqb-false}
 use Rattle.rfc4180.specs.declared.ByteClass.{ByteClass}
@@ -69,6 +70,27 @@ module _ (bytes : List ℕ) (quoted : Bool) where
   found-behind from mid end r h passed found =
       let further = found.behind in
       record { behind = omega arith; passed = both-passed from mid r passed found.passed; stops = found.stops }
+
+-- behind bytes that are passed, all bytes of a part are plain
+pub part_passed : (bytes : List ℕ) (quoted : Bool) (from at to : ℕ) → Passed bytes quoted from at → at ≤ to → to ≤ length bytes
+    → let part = take (to - at) (drop at bytes) in
+    Passed part quoted 0 (length part) → Passed bytes quoted from to
+part_passed bytes quoted from at to before h room passed i lo hi = go (ltb i at) refl
+  where
+    part : List ℕ
+    part = take (to - at) (drop at bytes)
+
+    whole : length part ≡ to - at
+    whole = length-take-le (to - at) (drop at bytes) (rw (length-drop at bytes) (omega arith))
+
+    go : (t : Bool) → ltb i at ≡ t → (i < length bytes) × (is_plain quoted (class_of (get_or bytes i 0)) ≡ true)
+    go true e = before i lo (ltb-true i at e)
+    go false e =
+        let behind = ltb-false i at e in
+        let place : at + (i - at) ≡ i = omega arith in
+        let same : get_or part (i - at) 0 ≡ get_or bytes i 0 =
+        get_or-take (to - at) (drop at bytes) (i - at) 0 (omega arith) ∙ get_or-drop at bytes (i - at) 0 ∙ rw place in
+        (omega arith, rw (← same) (passed (i - at) (omega arith) (omega (arith, whole))).1)
 
 -- what no byte passed changes is the same before and behind them all
 stepwise : {X : Type 0} (f : ℕ → X) (from n : ℕ) → ((i : ℕ) → from ≤ i → i < from + n → f i ≡ f (i + 1)) → f from ≡ f (from + n)

@@ -1,16 +1,16 @@
 -- What stands inside a field, with each doubled quote once, is its value. Assumes nothing.
-use Rattle.std.specs.Prelude.{◌≡◌, Bool, true, false, cond, ◌||◌, ℕ, ◌+◌, ◌≤◌, ◌<◌, eqb}
+use Rattle.std.specs.Prelude.{◌≡◌, Bool, true, false, cond, ◌||◌, ℕ, suc, ◌-◌, ◌≤◌, ◌<◌, eqb}
 use Rattle.std.proofs.Math.Path.{refl, ap}
-use Rattle.std.proofs.Common.{◌∙◌, true≢false, arith, drop_of_length-le}
+use Rattle.std.proofs.Common.{◌∙◌, true≢false, arith}
 use mathlib.Core.List.{List, [], ◌∷◌}
-use Rattle.std.proofs.Math.ListN.{length, drop, get_or, length-drop}
-use borrow.Author.Tests.{eq-eqb, ne_eqb}
+use Rattle.std.proofs.Math.ListN.{length, take, drop}
+use Rattle.std.proofs.Math.Seq.{take-length}
+use borrow.Author.Tests.{ne_eqb}
 use Rattle.rfc4180.specs.Bytes.{quote, comma, carriage_return, line_feed}
 use Rattle.rfc4180.specs.Grammar.{NonEscaped, non_escaped-end, non_escaped-text, Escaped, escaped-end, escaped-text, escaped-comma, escaped_cr, escaped_lf, escaped-quote}
 use Rattle.rfc4180.proofs.Laws.Classes.{text_no_quote}
-use Rattle.rfc4180.proofs.Laws.Places.{bytes-from}
 use Rattle.csv_fields.specs.Spans.{holds_quote}
-use Rattle.csv_fields.specs.Undoubling.{undoubled, NextByte}
+use Rattle.csv_fields.specs.Undoubling.{undoubled}
 
 -- a byte that is no quote stands for itself
 single : (b : ℕ) (rest : List ℕ) → eqb b quote ≡ false → undoubled (b ∷ rest) ≡ b ∷ undoubled rest
@@ -60,31 +60,32 @@ holds-undoubled (b ∷ c ∷ rest) = go (eqb b quote) (holds-undoubled (c ∷ re
 
 -- ---- byte after byte
 
-module _ (inside : List ℕ) (at : ℕ) where
-  -- a quote stands with the byte behind it
-  pub next-pair : at + 1 < length inside → get_or inside at 0 ≡ quote → NextByte inside at (at + 1 + 1)
-  unfolding undoubled
-  next-pair h e =
-      record {
-        onward = omega arith;
-        within = omega arith;
-        steps = rw (bytes-from inside at (omega arith), bytes-from inside (at + 1) h, eq-eqb (get_or inside at 0) quote e);
-      }
-
-  -- another one stands alone
-  pub next-single : at < length inside → (at + 1 < length inside → get_or inside at 0 ≡ quote → ⊥) → NextByte inside at (at + 1)
-  unfolding undoubled
-  next-single h other =
-      record { onward = omega arith; within = omega arith; steps = rw (bytes-from inside at h) (go (drop (at + 1) inside) refl) }
-    where
-      go : (rest : List ℕ) → drop (at + 1) inside ≡ rest → undoubled (get_or inside at 0 ∷ rest) ≡ get_or inside at 0 ∷ undoubled rest
-      go [] e = refl
-      go (c ∷ rest) e = single (get_or inside at 0) (c ∷ rest) (ne_eqb (get_or inside at 0) quote (other (more e)))
-        where
-          more : {c : ℕ} {rest : List ℕ} → drop (at + 1) inside ≡ c ∷ rest → at + 1 < length inside
-          more e = omega (arith, ap length e, length-drop (at + 1) inside)
-
--- nothing is left behind the last byte
-pub none_left_lem : (inside : List ℕ) (at : ℕ) → length inside ≤ at → undoubled (drop at inside) ≡ []
+pub nothing_left : (left : List ℕ) → length left < 1 → undoubled left ≡ []
 unfolding undoubled
-none_left_lem inside at h = rw (drop_of_length-le inside {i = at} h)
+nothing_left [] h = refl
+nothing_left (b ∷ rest) h = absurd (omega arith)
+
+-- a quote stands with the byte behind it
+pub pair : (b : ℕ) (behind : List ℕ) → b ≡ quote → 1 ≤ length behind
+    → undoubled (b ∷ behind) ≡ b ∷ undoubled (take (length behind - 1) (drop 1 behind))
+unfolding undoubled
+pair b [] e h = absurd (omega arith)
+pair b (c ∷ rest) e h = let n : suc (length rest) - 1 ≡ length rest = omega arith in rw (e, n, take-length rest)
+
+-- another one stands alone
+pub alone : (b : ℕ) (behind : List ℕ) → (b ≡ quote → length behind < 1) → undoubled (b ∷ behind) ≡ b ∷ undoubled behind
+unfolding undoubled
+alone b [] other = refl
+alone b (c ∷ rest) other = single b (c ∷ rest) (ne_eqb b quote (λ e. absurd (omega (arith, other e))))
+
+-- a value is no longer than what stands inside its field
+pub no_longer : (inside : List ℕ) → length (undoubled inside) ≤ length inside
+unfolding undoubled
+no_longer [] = omega arith
+no_longer (b ∷ []) = omega arith
+no_longer (b ∷ c ∷ rest) = go (eqb b quote) (no_longer rest) (no_longer (c ∷ rest))
+  where
+    go : (t : Bool) → length (undoubled rest) ≤ length rest → length (undoubled (c ∷ rest)) ≤ suc (length rest)
+        → suc (length (cond t (undoubled rest) (undoubled (c ∷ rest)))) ≤ suc (suc (length rest))
+    go true short longer = omega arith
+    go false short longer = omega arith

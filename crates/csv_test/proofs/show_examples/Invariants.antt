@@ -1,9 +1,6 @@
--- The next example begins in the input. The measure is what is left of the input.
-use Rattle.std.proofs.Common.{length, ◌-◌, ◌≤◌}
+-- The measure is how much of the input is left. Assumes nothing.
+use Rattle.std.proofs.Common.{length}
 use Rattle.csv_test.proofs.show_examples.Given as goal
 
-abbrev pub invariant-loop-at : goal.invariant-loop-at
-invariant-loop-at g l = l.at ≤ length l.input
-
-abbrev pub decreases-loop-at : goal.decreases-loop-at
-decreases-loop-at g l = length l.input - l.at
+abbrev pub decreases-loop-rest : goal.decreases-loop-rest
+decreases-loop-rest g l = length l.rest

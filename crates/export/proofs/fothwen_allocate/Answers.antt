@@ -1,25 +1,17 @@
 -- What `allocate` ensures in the minutes handed on (Laws), with the result as numbers. Assumes nothing.
 use Rattle.std.proofs.Common.{sym, ap, ◌∙◌}
-use Rattle.planning.specs.Numbers.{call_on}
 use Rattle.export.proofs.Laws.{replied}
-use Rattle.export.specs.Numbers.{mode_of}
 use Rattle.export.specs.Replies.{reply_of}
 use Rattle.export.proofs.fothwen_allocate.Goals as goal
 
-pub returns-in-Answered : goal.returns-in-Answered
+pub returns-in-Ok : goal.returns-in-Ok
 unfolding reply_of
-returns-in-Answered c =
-    let args = c.args in
-    let call = call_on (mode_of args.mode) args.minutes args.allowance args.watts.now args.fuels.now args.energies.now args.limits.now
-    args.quiet.now args.table.now args.spare.now in
-    let handed-on = rw (c.minutes_under.ensures, c.mode_of.ensures) at c.allocate-r.ensures in
-    replied args.mode call handed-on (c.answered.ensures ∙ ap reply_of (sym c.in-Answered.is))
+returns-in-Ok c =
+    let handed-on = rw (c.minutes_under.ensures, c.mode_of.ensures) at c.allocate.ensures in
+    replied c.args.mode _ handed-on (c.into.ensures ∙ ap reply_of (sym c.in-Ok.is))
 
-pub returns-in-Refused : goal.returns-in-Refused
+pub returns-in-Err : goal.returns-in-Err
 unfolding reply_of
-returns-in-Refused c =
-    let args = c.args in
-    let call = call_on (mode_of args.mode) args.minutes args.allowance args.watts.now args.fuels.now args.energies.now args.limits.now
-    args.quiet.now args.table.now args.spare.now in
-    let handed-on = rw (c.minutes_under.ensures, c.mode_of.ensures) at c.allocate-r.ensures in
-    replied args.mode call handed-on (c.refused.ensures ∙ ap reply_of (sym c.in-Refused.is))
+returns-in-Err c =
+    let handed-on = rw (c.minutes_under.ensures, c.mode_of.ensures) at c.allocate.ensures in
+    replied c.args.mode _ handed-on (c.into-in-Err.ensures ∙ ap reply_of (sym c.in-Err.is))

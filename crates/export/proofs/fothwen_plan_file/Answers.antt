@@ -3,20 +3,20 @@ use Rattle.std.proofs.Common.{sym, ap, ◌∙◌}
 use Rattle.export.specs.Replies.{file_reply_of}
 use Rattle.export.proofs.fothwen_plan_file.Goals as goal
 
-pub returns-in-Printed : goal.returns-in-Printed
+pub returns-in-Ok : goal.returns-in-Ok
 unfolding file_reply_of
-returns-in-Printed c =
+returns-in-Ok c =
     record {
-      answer = c.plan_file-r.result;
-      reply = c.answered.ensures ∙ ap file_reply_of (sym c.in-Printed.is);
-      promised = c.plan_file-r.ensures;
+      answer = c.plan_file.result;
+      reply = c.into.ensures ∙ ap file_reply_of (sym c.in-Ok.is);
+      promised = c.plan_file.ensures;
     }
 
-pub returns-in-Refused : goal.returns-in-Refused
+pub returns-in-Err : goal.returns-in-Err
 unfolding file_reply_of
-returns-in-Refused c =
+returns-in-Err c =
     record {
-      answer = c.plan_file-r.result;
-      reply = c.refused.ensures ∙ ap file_reply_of (sym c.in-Refused.is);
-      promised = c.plan_file-r.ensures;
+      answer = c.plan_file.result;
+      reply = c.into-in-Err.ensures ∙ ap file_reply_of (sym c.in-Err.is);
+      promised = c.plan_file.ensures;
     }

@@ -1,21 +1,19 @@
 -- A call answered in lists of its own, with space for every print, and handed over where the print fits. Assumes nothing.
 use Rattle.std.proofs.Math.Path.{◌≡◌, sym, ap}
-use Rattle.std.specs.Prelude.{refl, List, [], ◌∷◌, ℕ, ◌≤◌, ◌<◌, take}
-use Rattle.std.proofs.Common.{◌∙◌, arith, take_all, le-leb}
+use Rattle.std.specs.Prelude.{refl, List, [], ◌∷◌, ℕ, ◌≤◌, ◌<◌, take, true, false, Result, Ok, Err, is_err}
+use Rattle.std.proofs.Common.{◌∙◌, arith, take_all, le-leb, true≢false}
 use Rattle.std.proofs.Math.ListN.{length}
 use Rattle.std.proofs.Math.Seq.{take-append_seam}
 use Rattle.std.proofs.lemmas.Bool.{lt-leb}
-use Rattle.lines.specs.declared.Wrote.{Wrote}
-use Rattle.lines.specs.declared.Wrote.TheVariants.{Next}
+use Rattle.lines.specs.declared.WriteError.{WriteError}
 use Rattle.lines.specs.Laws.Front.{bytes-at-front, bytes-kept}
 use Rattle.lines.specs.Putting.{plain, output as output-of, Puts}
 use Rattle.planning.specs.declared.Answer.{Answer}
+use Rattle.planning.specs.declared.Refusal.{Refusal}
 use Rattle.planning.specs.declared.Fault.TheVariants.{Space}
 use Rattle.planning.specs.Bounds.{most_cells, most_engines}
 use Rattle.planning.proofs.Laws.OnExit.{over-whole}
 use Rattle.planning.specs.Tables.{over_front}
-use Rattle.planfile.specs.declared.FileAnswer.{FileAnswer}
-use Rattle.planfile.specs.declared.FileAnswer.TheVariants.{Printed, Refused}
 use Rattle.planfile.specs.FileCall.{FileCall, printed, read_call, answer_by, answer_to_file, on_exit, file_table, file_spare, file_output}
 use Rattle.planfile.specs.FilePlan.{FilePlan}
 use Rattle.planfile.proofs.Laws.Holding.{accepted-holds}
@@ -24,7 +22,7 @@ use Rattle.planfile.specs.Print.{longest_print}
 use Rattle.planfile.specs.Promises.{FilePromised}
 use Rattle.planfile.specs.Reading.{Read, refused, accepted, ◌>>=◌, fault, require, read_file}
 use Rattle.filecall.specs.Calls.{call_with}
-use Rattle.filecall.specs.HandOver.{with_space}
+use Rattle.filecall.specs.HandOver.{with_space, Returned}
 use Rattle.filecall.specs.Laws.FileCall.{read-promised, refusal-promised, file-refused, call_space}
 
 -- a list copied over another of its length
@@ -32,9 +30,22 @@ pub copied_whole : (new lent : List ℕ) {after : List ℕ} → length new ≡ l
 copied_whole new lent same copied = copied ∙ rw (take_all (length lent) new (omega arith)) (over-whole new lent same)
 
 -- what is promised of equal lists
-pub own-promised : {file table spare own-table own-spare output : List ℕ} {r : FileAnswer} {table' spare' output' : List ℕ} → own-table ≡ table → own-spare ≡ spare
+pub own-promised : {file table spare own-table own-spare output : List ℕ} {r : Returned} {table' spare' output' : List ℕ} → own-table ≡ table → own-spare ≡ spare
     → FilePromised (call_with file own-table own-spare output) r table' spare' output' → FilePromised (call_with file table spare output) r table' spare' output'
 own-promised t s promise = rw (t, s) at promise
+
+-- a result by its test
+ok_of : {T E : Type 0} (r : Result T E) → is_err r ≡ false → (x : T) × (r ≡ Ok x)
+ok_of (Ok x) h = (x, refl)
+ok_of (Err e) h = absurd (true≢false h)
+
+err_of : {T E : Type 0} (r : Result T E) → is_err r ≡ true → (e : E) × (r ≡ Err e)
+err_of (Ok x) h = absurd (true≢false (sym h))
+err_of (Err e) h = (e, refl)
+
+-- equal answers have prints of one length
+same-length : {a b : Answer} {n m : ℕ} → ◌≡◌ {A = Returned} (Ok (a, n)) (Ok (b, m)) → n ≡ m
+same-length {a} {b} {n} {m} e = let both : ◌≡◌ {A = Answer × ℕ} (a, n) (b, m) = cc in ap (λ (p : Answer × ℕ). p.1) both
 
 -- with space and without
 with-space : (f : FilePlan) (output : List ℕ) → length (printed f) ≤ length output → with_space f output ≡ accepted f
@@ -67,24 +78,29 @@ module _ (call : FileCall) (lent : List ℕ) (cells : length call.table ≡ most
         call-read = call_space call f reads cells count;
       }
 
-  module _ {r : FileAnswer} {table' spare' made : List ℕ} (answered : FilePromised own r table' spare' made) where
+  module _ {r : Returned} {table' spare' made : List ℕ} (answered : FilePromised own r table' spare' made) where
     -- refused there, it is refused
-    pub aside_refused : ((a : Answer) (n : ℕ) → r ≡ Printed a n → ⊥) → FilePromised call r call.table call.spare call.output
-    aside_refused none = go (read_file call.file) refl
+    pub aside_refused : {refusal : Refusal} → r ≡ Err refusal → FilePromised call (Err refusal) call.table call.spare call.output
+    aside_refused {refusal = given} says = go (read_file call.file) refl
       where
-        go : (m : Read FilePlan) → read_file call.file ≡ m → FilePromised call r call.table call.spare call.output
+        go : (m : Read FilePlan) → read_file call.file ≡ m → FilePromised call (Err given) call.table call.spare call.output
         go (refused refusal) e = unfold answer_to_file answer_by in
-            rw (answered.result, file-refused own refusal e) (refusal-promised call refusal (file-refused call refusal e))
-        go (accepted f) e = unfold answer_to_file answer_by in absurd (none _ _ (answered.result ∙ ap answer_by (made_by f e).own_read))
+            let told : ◌≡◌ {A = Returned} (Err given) (Err refusal) = sym says ∙ answered.result ∙ ap answer_by (file-refused own refusal e) in
+            let same : given ≡ refusal = cc in
+            rw same (refusal-promised call refusal (file-refused call refusal e))
+        go (accepted f) e = unfold answer_to_file answer_by in
+            let told : ◌≡◌ {A = Returned} (Err given) (Ok (_, length (printed f))) = sym says ∙ answered.result ∙ ap answer_by (made_by f e).own_read in
+            let z : ◌≡◌ {A = ℕ} 0 1 = cc in
+            absurd (omega arith)
 
     -- printed there, the plan is read
-    module _ {a : Answer} {n : ℕ} (prints : r ≡ Printed a n) where
+    module _ {a : Answer} {n : ℕ} (prints : r ≡ Ok (a, n)) where
       pub plan-read : (f : FilePlan) × Made f
       plan-read = go (read_file call.file) refl
         where
           go : (m : Read FilePlan) → read_file call.file ≡ m → (f : FilePlan) × Made f
           go (refused refusal) e = unfold answer_to_file answer_by in
-              let told : Printed a n ≡ Refused refusal = sym prints ∙ answered.result ∙ ap answer_by (file-refused own refusal e) in
+              let told : ◌≡◌ {A = Returned} (Ok (a, n)) (Err refusal) = sym prints ∙ answered.result ∙ ap answer_by (file-refused own refusal e) in
               let z : ◌≡◌ {A = ℕ} 0 1 = cc in
               absurd (omega arith)
           go (accepted f) e = (f, made_by f e)
@@ -93,29 +109,29 @@ module _ (call : FileCall) (lent : List ℕ) (cells : length call.table ≡ most
       made-front : {f : FilePlan} → Made f → (take n made ≡ printed f) × (n ≡ length (printed f)) × (n ≤ longest_print)
       unfolding answer_to_file answer_by file_output on_exit over_front
       made-front {f} m =
-          let told : Printed a n ≡ Printed _ (length (printed f)) = sym prints ∙ answered.result ∙ ap answer_by m.own_read in
-          let size : n ≡ length (printed f) = cc in
+          let told : ◌≡◌ {A = Returned} (Ok (a, n)) (Ok (_, length (printed f))) = sym prints ∙ answered.result ∙ ap answer_by m.own_read in
+          let size = same-length told in
           (rw (answered.output, m.own_read, size) (take-append_seam (printed f) _), size, omega (arith, m.short))
 
       pub aside_made : (take n made ≡ printed plan-read.0) × (n ≡ length (printed plan-read.0)) × (n ≤ longest_print)
       aside_made = made-front plan-read.1
 
-      module _ {next : Wrote} {out : List ℕ} (put : Puts (plain (take n made) ∷ []) (output-of (Next 0) call.output) (output-of next out)) where
-        put-print : Puts (plain (printed plan-read.0) ∷ []) (output-of (Next 0) call.output) (output-of next out)
+      module _ {next : Result ℕ WriteError} {out : List ℕ} (put : Puts (plain (take n made) ∷ []) (output-of (Ok 0) call.output) (output-of next out)) where
+        put-print : Puts (plain (printed plan-read.0) ∷ []) (output-of (Ok 0) call.output) (output-of next out)
         put-print = rw aside_made.0 at put
 
         -- where it fits, all is handed over
-        pub aside_handed : {to : ℕ} → next ≡ Next to → {table'' spare'' : List ℕ} → table'' ≡ table' → spare'' ≡ spare'
-            → FilePromised call (Printed a n) table'' spare'' out
+        pub aside_handed : is_err next ≡ false → {table'' spare'' : List ℕ} → table'' ≡ table' → spare'' ≡ spare'
+            → FilePromised call (Ok (a, n)) table'' spare'' out
         unfolding answer_to_file answer_by file_table file_spare on_exit over_front
-        aside_handed e t s =
+        aside_handed fits t s =
             let m = plan-read.1 in
-            let stands = bytes-at-front put-print e in
+            let stands = bytes-at-front put-print (ok_of next fits).1 in
             read-promised call (accepted plan-read.0) (m.call-read ∙ with-space plan-read.0 call.output stands.0)
             (sym prints ∙ answered.result ∙ ap answer_by m.own_read) (t ∙ answered.table ∙ rw m.own_read) (s ∙ answered.spare ∙ rw m.own_read) stands.2
 
         -- where it does not, nothing is
-        pub aside_kept : ((to : ℕ) → next ≡ Next to → ⊥) → FilePromised call (Refused (record { fault = Space; place = 0 })) call.table call.spare out
-        aside_kept none =
-            let kept = bytes-kept put-print none in
+        pub aside_kept : is_err next ≡ true → FilePromised call (Err (record { fault = Space; place = 0 })) call.table call.spare out
+        aside_kept over =
+            let kept = bytes-kept put-print (err_of next over).1 in
             rw kept.1 (refusal-promised call _ (plan-read.1.call-read ∙ without_space plan-read.0 call.output kept.0))

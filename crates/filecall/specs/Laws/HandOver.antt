@@ -1,21 +1,17 @@
 -- The plan of a file on the numbers that the allocation takes, and the answer to it handed over. Assumes nothing.
-use Rattle.std.specs.Prelude.{◌≡◌, ℕ, zero, suc, ◌*◌, ◌≤◌, ◌<◌, take}
+use Rattle.std.specs.Prelude.{◌≡◌, ℕ, zero, suc, ◌*◌, ◌≤◌, ◌<◌, take, get_or, Result, Ok}
 use Rattle.std.proofs.Math.Path.{refl, sym, ap, ap₂}
 use Rattle.std.proofs.Common.{◌∙◌, mul-le-mul, arith, take-append-drop, length-take-le}
 use mathlib.Core.List.{List, [], ◌∷◌, ◌++◌, map, zip_with}
 use Rattle.std.proofs.Math.ListN.{length, drop}
 use borrow.Author.Tests.{le-leb}
-use Rattle.lines.specs.declared.Wrote.{Wrote}
-use Rattle.lines.specs.declared.Wrote.TheVariants.{Next}
+use Rattle.lines.specs.declared.WriteError.{WriteError}
 use Rattle.lines.specs.Laws.Front.{behind, lines-at-front}
 use Rattle.lines.specs.Lines.{PutLines}
 use Rattle.lines.specs.Putting.{Output, output}
-use Rattle.planning.specs.declared.Allocation.{Allocation}
-use Rattle.planning.specs.declared.Allocation.TheVariants.{Answered}
-use Rattle.planning.specs.declared.Allocation.TheVariants as allocations
 use Rattle.planning.specs.declared.Answer.{Answer}
 use Rattle.planning.specs.declared.Refusal.{Refusal}
-use Rattle.planning.specs.Bounds.{most_deliveries, most_cells}
+use Rattle.planning.specs.Bounds.{most_cells}
 use Rattle.planning.proofs.Laws.Modes.{planned-searched}
 use Rattle.planning.proofs.Laws.Numbers.{unrefused-iff}
 use Rattle.planning.proofs.Laws.OnExit.{over-whole}
@@ -24,9 +20,9 @@ use Rattle.planning.proofs.Laws.Tables.{length-listed, listed_same, listed-take,
 use Rattle.planning.specs.Modes.{planned, answer_of, spares, table_by, spares_by, table_after, spares_after}
 use Rattle.planning.specs.Numbers.{Call, Accepted, plan_of, engines_of, deliveries_of, answered_by, allocation, unless_refused, table_on_exit, spare_on_exit, call_on}
 use Rattle.planning.specs.Plan.{Plan}
-use Rattle.planning.specs.Search.{Result, found, none, stopped}
+use Rattle.planning.specs.Search.{found, none, stopped}
+use Rattle.planning.specs.Search as search
 use Rattle.planning.specs.Tables.{over_front, listed, at}
-use Rattle.planfile.specs.declared.FileAnswer.TheVariants.{Printed}
 use Rattle.planfile.specs.FileCall.{answer_by, on_exit, printed}
 use Rattle.planfile.specs.FilePlan.{NamedEngine, NamedDelivery, unnamed, engine_of, delivery_of}
 use Rattle.planfile.proofs.Laws.Holding.{engine-count, delivery-count}
@@ -36,10 +32,10 @@ use Rattle.planfile.specs.Print.{lines_of, answer_lines, print_of, longest_print
 use Rattle.planfile.specs.Reading.{◌>>=◌, require}
 use Rattle.planreader.specs.declared.FilePlan.{FilePlan as ByValue}
 use Rattle.filecall.specs.HandOver.{Answers, with_space, lent_lists, HandedOver}
-use Rattle.planreader.specs.Columns.{Columns}
-use Rattle.planreader.specs.Plans.{name_at, name_list, NamesHeld, items_in, Holding, quiet_in, engine_columns, delivery_columns, plan_by, UsablePlan}
+use Rattle.planreader.specs.declared.items.Items.{Items}
+use Rattle.planreader.specs.Plans.{names_in, items_in, Holding, quiet_in, plan_by, UsablePlan}
 use Rattle.filecall.specs.Laws.Printing.{print-by-names}
-use Rattle.filecall.specs.Printing.{engine_list, delivery_list, print_lines}
+use Rattle.filecall.specs.Printing.{print_lines}
 
 -- ---- the numbers of a plan
 
@@ -54,52 +50,54 @@ paired pair (suc n) (a ∷ firsts) (b ∷ seconds) l m = ap (λ (items : List _)
 
 -- the items of columns without their names
 unnamed_items : {A B : Type 0} (make : List ℕ → ℕ → ℕ → A) (content : A → B) (pair : ℕ → ℕ → B) → ((text : List ℕ) (a b : ℕ) → content (make text a b) ≡ pair a b)
-    → (n most : ℕ) (c : Columns) → Holding n most c → zip_with pair (take n c.firsts) (take n c.seconds) ≡ map content (items_in make n c)
+    → {most : ℕ} (c : Items most) → Holding c → zip_with pair (take c.count c.firsts) (take c.count c.seconds) ≡ map content (items_in make c)
 unfolding items_in
-unnamed_items make content pair same n most c h =
-    paired pair n c.firsts c.seconds (omega (arith, h.room, h.firsts)) (omega (arith, h.room, h.seconds))
-    ∙ sym (map-listed content n _ ∙ listed_same n _ _ (λ k l. same _ _ _))
+unnamed_items make content pair same c h =
+    paired pair c.count c.firsts c.seconds (omega (arith, h.room, h.firsts)) (omega (arith, h.room, h.seconds))
+    ∙ sym (map-listed content c.count _ ∙ listed_same c.count _ _ (λ k l. same _ _ _))
 
 -- one number of each item is the front of its column
-column_back : {A : Type 0} (make : List ℕ → ℕ → ℕ → A) (number : A → ℕ) (n : ℕ) (c : Columns) (column : List ℕ)
-    → ((k : ℕ) → k < n → number (make (name_at c.names c.sizes k) (at c.firsts k) (at c.seconds k)) ≡ at column k)
-    → n ≤ length column → map number (items_in make n c) ≡ take n column
+column_back : {A : Type 0} (make : List ℕ → ℕ → ℕ → A) (number : A → ℕ) {most : ℕ} (c : Items most) (column : List ℕ)
+    → ((k : ℕ) → k < c.count → number (make (get_or c.names k []) (at c.firsts k) (at c.seconds k)) ≡ at column k)
+    → c.count ≤ length column → map number (items_in make c) ≡ take c.count column
 unfolding items_in
-column_back make number n c column is l = map-listed number n _ ∙ listed_same n _ _ is ∙ listed-take n column l
+column_back make number c column is l = map-listed number c.count _ ∙ listed_same c.count _ _ is ∙ listed-take c.count column l
 
 module _ {p : ByValue} (u : UsablePlan p) (table spare : List ℕ) where
   -- the call on the plan's numbers
   abbrev pub call_by : Call
   call_by =
-      call_on p.mode p.minutes p.allowance (take p.engines p.watts) (take p.engines p.fuels)
-      (take p.deliveries p.energies) (take p.deliveries p.limits) (take (3 * p.spans) p.quiet) table spare
+      call_on p.mode p.minutes p.allowance (take p.engines.count p.engines.firsts) (take p.engines.count p.engines.seconds)
+      (take p.deliveries.count p.deliveries.firsts) (take p.deliveries.count p.deliveries.seconds) (take (3 * p.spans) p.quiet) table spare
 
-  watts-back : map (λ (i : NamedEngine). i.watts) (plan_by p).engines ≡ take p.engines p.watts
-  watts-back = column_back engine_of _ p.engines (engine_columns p) p.watts (λ k l. refl) (omega (arith, u.engines.room, u.engines.firsts))
+  watts-back : map (λ (i : NamedEngine). i.watts) (plan_by p).engines ≡ take p.engines.count p.engines.firsts
+  watts-back = column_back engine_of _ p.engines p.engines.firsts (λ k l. refl) (omega (arith, u.engines.room, u.engines.firsts))
 
-  fuels-back : map (λ (i : NamedEngine). i.fuel) (plan_by p).engines ≡ take p.engines p.fuels
-  fuels-back = column_back engine_of _ p.engines (engine_columns p) p.fuels (λ k l. refl) (omega (arith, u.engines.room, u.engines.seconds))
+  fuels-back : map (λ (i : NamedEngine). i.fuel) (plan_by p).engines ≡ take p.engines.count p.engines.seconds
+  fuels-back = column_back engine_of _ p.engines p.engines.seconds (λ k l. refl) (omega (arith, u.engines.room, u.engines.seconds))
 
   call-plan : plan_of call_by ≡ unnamed (plan_by p)
   unfolding plan_of deliveries_of unnamed
   call-plan =
       ap₂ (λ es ds. record { mode = p.mode; minutes = p.minutes; allowance = p.allowance; engines = es; deliveries = ds })
       (ap₂ (λ ws fs. engines_of ws fs (quiet_in p.spans p.quiet)) (sym watts-back) (sym fuels-back))
-      (unnamed_items delivery_of (λ (i : NamedDelivery). i.delivery) _ (λ t a b. refl) p.deliveries most_deliveries (delivery_columns p) u.deliveries)
+      (unnamed_items delivery_of (λ (i : NamedDelivery). i.delivery) _ (λ t a b. refl) p.deliveries u.deliveries)
 
-  column_lengths : (length (take p.engines p.watts) ≡ p.engines) × (length (take p.engines p.fuels) ≡ p.engines)
-      × (length (take p.deliveries p.energies) ≡ p.deliveries) × (length (take p.deliveries p.limits) ≡ p.deliveries)
+  column_lengths : (length (take p.engines.count p.engines.firsts) ≡ p.engines.count)
+      × (length (take p.engines.count p.engines.seconds) ≡ p.engines.count)
+      × (length (take p.deliveries.count p.deliveries.firsts) ≡ p.deliveries.count)
+      × (length (take p.deliveries.count p.deliveries.seconds) ≡ p.deliveries.count)
   column_lengths = (
-    length-take-le p.engines p.watts (omega (arith, u.engines.room, u.engines.firsts)),
-    length-take-le p.engines p.fuels (omega (arith, u.engines.room, u.engines.seconds)),
-    length-take-le p.deliveries p.energies (omega (arith, u.deliveries.room, u.deliveries.firsts)),
-    length-take-le p.deliveries p.limits (omega (arith, u.deliveries.room, u.deliveries.seconds)),
+    length-take-le p.engines.count p.engines.firsts (omega (arith, u.engines.room, u.engines.firsts)),
+    length-take-le p.engines.count p.engines.seconds (omega (arith, u.engines.room, u.engines.seconds)),
+    length-take-le p.deliveries.count p.deliveries.firsts (omega (arith, u.deliveries.room, u.deliveries.firsts)),
+    length-take-le p.deliveries.count p.deliveries.seconds (omega (arith, u.deliveries.room, u.deliveries.seconds)),
   )
 
   quiet-length : length (take (3 * p.spans) p.quiet) ≡ 3 * p.spans
   quiet-length = length-take-le (3 * p.spans) p.quiet (omega (arith, u.quiet.room, u.quiet.whole))
 
-  module _ (cells : length table ≡ p.deliveries * p.engines) (count : length spare ≡ p.engines) where
+  module _ (cells : length table ≡ p.deliveries.count * p.engines.count) (count : length spare ≡ p.engines.count) where
     call-accepted : Accepted call_by
     call-accepted =
         record {
@@ -113,26 +111,20 @@ module _ {p : ByValue} (u : UsablePlan p) (table spare : List ℕ) where
         }
 
     -- it is answered, as the plan is
-    call-answered : (allocation call_by ≡ Answered (answer_of (planned (unnamed (plan_by p))))) × (table_on_exit call_by ≡ table_after (unnamed (plan_by p)) table)
+    pub call-answered : (allocation call_by ≡ Ok (answer_of (planned (unnamed (plan_by p)))))
+        × (table_on_exit call_by ≡ table_after (unnamed (plan_by p)) table)
         × (spare_on_exit call_by ≡ spares_after (unnamed (plan_by p)) spare)
     unfolding allocation answered_by table_on_exit spare_on_exit unless_refused
     call-answered =
         let free = (unrefused-iff call_by).1 call-accepted in
         (rw (free, call-plan), rw (free, call-plan), rw (free, call-plan))
 
-    -- so it is not refused
-    pub plan-unrefused : {a : Allocation} {refusal : Refusal} → a ≡ allocation call_by → a ≡ allocations.Refused refusal → ⊥
-    plan-unrefused is refused =
-        let told : allocations.Refused _ ≡ Answered _ = sym refused ∙ is ∙ call-answered.0 in
-        let z : ◌≡◌ {A = ℕ} 0 1 = cc in
-        absurd (omega arith)
-
-    pub plan-answered : {a : Allocation} {answer : Answer} {pieces left : List ℕ} → a ≡ allocation call_by → pieces ≡ table_on_exit call_by
-        → left ≡ spare_on_exit call_by → a ≡ Answered answer → Answers p answer table spare pieces left
+    pub plan-answered : {a : Result Answer Refusal} {answer : Answer} {pieces left : List ℕ} → a ≡ allocation call_by → pieces ≡ table_on_exit call_by
+        → left ≡ spare_on_exit call_by → a ≡ Ok answer → Answers p answer table spare pieces left
     plan-answered is drawn spared said =
         record {
           usable = u;
-          answer = let same : Answered _ ≡ Answered _ = sym said ∙ is ∙ call-answered.0 in cc;
+          answer = let same : Ok _ ≡ Ok _ = sym said ∙ is ∙ call-answered.0 in cc;
           cells = cells;
           table = drawn ∙ call-answered.1;
           count = count;
@@ -141,28 +133,35 @@ module _ {p : ByValue} (u : UsablePlan p) (table spare : List ℕ) where
 
 -- ---- a plan by value
 
--- names in columns can be found
-pub column_names : {n most : ℕ} {c : Columns} → Holding n most c → NamesHeld n c.names c.sizes
-column_names h = record { room = omega (arith, h.room, h.names); sized = omega (arith, h.room, h.sizes); short = h.short }
+-- the names in columns are those of the items
+names-taken : (n : ℕ) (names : List (List ℕ)) → n ≤ length names → listed n (λ k. get_or names k []) ≡ take n names
+unfolding listed
+names-taken zero names l = refl
+names-taken (suc n) [] l = absurd (omega arith)
+names-taken (suc n) (name ∷ names) l = ap (λ (rest : List (List ℕ)). name ∷ rest) (names-taken n names (omega arith))
 
--- and are those of the items
 item_names : {A : Type 0} (make : List ℕ → ℕ → ℕ → A) (name : A → List ℕ) → ((text : List ℕ) (a b : ℕ) → name (make text a b) ≡ text)
-    → (n : ℕ) (c : Columns) → map name (items_in make n c) ≡ name_list n c.names c.sizes
-unfolding items_in name_list
-item_names make name made n c = map-listed name n _ ∙ listed_same n _ _ (λ k l. made _ _ _)
+    → {most : ℕ} (c : Items most) → Holding c → map name (items_in make c) ≡ names_in c
+unfolding items_in
+item_names make name made c h =
+    map-listed name c.count _ ∙ listed_same c.count _ _ (λ k l. made _ _ _) ∙ names-taken c.count c.names (omega (arith, h.room, h.names))
+
+-- as many names as are counted
+pub names-count : {most : ℕ} {c : Items most} → Holding c → length (names_in c) ≡ c.count
+names-count {c = c} h = length-take-le c.count c.names (omega (arith, h.room, h.names))
 
 module _ {p : ByValue} (u : UsablePlan p) where
   -- a plan has no more cells than the largest one
-  pub cells_fit : p.deliveries * p.engines ≤ most_cells
+  pub cells_fit : p.deliveries.count * p.engines.count ≤ most_cells
   cells_fit = omega (arith, mul-le-mul u.deliveries.room u.engines.room)
 
   -- as many engines and deliveries as are counted
-  plan-counts : (length (unnamed (plan_by p)).engines ≡ p.engines) × (length (unnamed (plan_by p)).deliveries ≡ p.deliveries)
+  plan-counts : (length (unnamed (plan_by p)).engines ≡ p.engines.count) × (length (unnamed (plan_by p)).deliveries ≡ p.deliveries.count)
   unfolding items_in
-  plan-counts = (engine-count (plan_by p) ∙ length-listed p.engines _, delivery-count (plan_by p) ∙ length-listed p.deliveries _)
+  plan-counts = (engine-count (plan_by p) ∙ length-listed p.engines.count _, delivery-count (plan_by p) ∙ length-listed p.deliveries.count _)
 
   -- what is found has a cell for every delivery and engine
-  found-cells : {tries : ℕ} {table : List ℕ} → (planned (unnamed (plan_by p))).result ≡ found tries table → length table ≡ p.deliveries * p.engines
+  found-cells : {tries : ℕ} {table : List ℕ} → (planned (unnamed (plan_by p))).result ≡ found tries table → length table ≡ p.deliveries.count * p.engines.count
   found-cells e =
       let plan = unnamed (plan_by p) in
       rw (plan-counts.0, plan-counts.1) at (plan-length plan (planned plan).minutes u.in_range.deliveries (sym (planned-searched plan).result ∙ e))
@@ -184,23 +183,23 @@ module _ {p : ByValue} {answer : Answer} {own_table own_spare pieces left : List
       a.spare ∙ rw e (over-whole _ own_spare (length-listed (length plan.engines) _ ∙ (plan-counts a.usable).0 ∙ sym a.count))
 
   -- and they keep their lengths
-  pub own-cells : length pieces ≡ p.deliveries * p.engines
+  pub own-cells : length pieces ≡ p.deliveries.count * p.engines.count
   unfolding table_after table_by
   own-cells = go (planned plan).result refl
     where
-      go : (r : Result) → (planned plan).result ≡ r → length pieces ≡ p.deliveries * p.engines
+      go : (r : search.Result) → (planned plan).result ≡ r → length pieces ≡ p.deliveries.count * p.engines.count
       go (found tries table) e = ap length (own-table e) ∙ found-cells a.usable e
       go (none tries) e = rw (a.table, e) a.cells
       go (stopped tries) e = rw (a.table, e) a.cells
 
   -- the lines by names and pieces are those of the plan's print
-  lines_are : print_lines answer (delivery_list p) (engine_list p) pieces
+  lines_are : print_lines answer (names_in p.deliveries) (names_in p.engines) pieces
       ≡ answer_lines (planned plan).minutes (planned plan).result (lines_of (plan_by p) (planned plan).result)
   lines_are =
       rw (
         a.answer,
-        ← item_names delivery_of (λ (i : NamedDelivery). i.name) (λ t a b. refl) p.deliveries (delivery_columns p),
-        ← item_names engine_of (λ (i : NamedEngine). i.name) (λ t a b. refl) p.engines (engine_columns p),
+        ← item_names delivery_of (λ (i : NamedDelivery). i.name) (λ t a b. refl) p.deliveries a.usable.deliveries,
+        ← item_names engine_of (λ (i : NamedEngine). i.name) (λ t a b. refl) p.engines a.usable.engines,
       )
       (print-by-names (plan_by p) (planned plan) pieces (λ tries table e. own-table e))
 
@@ -209,48 +208,48 @@ module _ {p : ByValue} {answer : Answer} {own_table own_spare pieces left : List
   unfolding printed print_of
   print-short = let u = a.usable in print-length (plan_by p) u.engines_named u.deliveries_named u.in_range
 
-  module _ {lent out : List ℕ} {next : Wrote} (room : longest_print ≤ length lent)
-      (put : PutLines (print_lines answer (delivery_list p) (engine_list p) pieces) (output (Next 0) lent) (output next out)) where
+  module _ {lent out : List ℕ} {next : Result ℕ WriteError} (room : longest_print ≤ length lent)
+      (put : PutLines (print_lines answer (names_in p.deliveries) (names_in p.engines) pieces) (output (Ok 0) lent) (output next out)) where
     print-stands : output next out ≡ behind (printed (plan_by p)) lent
     unfolding printed print_of
     print-stands =
         let u = a.usable in
         lines-at-front (print-writable (plan_by p) u.engines_named u.deliveries_named (planned plan)) (omega (arith, print-short)) (rw lines_are at put)
 
-    pub print-next : next ≡ Next (length (printed (plan_by p)))
+    pub print-next : next ≡ Ok (length (printed (plan_by p)))
     print-next = ap (λ (o : Output). o.next) print-stands
 
 -- ---- the answer handed over
 
 -- found for the front of a list, it is what is found for all of it
 module _ {p : ByValue} {answer : Answer} (table spare : List ℕ) {pieces left : List ℕ}
-    (a : Answers p answer (take (p.deliveries * p.engines) table) (take p.engines spare) pieces left) where
-  table-handed : pieces ++ drop (p.deliveries * p.engines) table ≡ table_after (unnamed (plan_by p)) table
+    (a : Answers p answer (take (p.deliveries.count * p.engines.count) table) (take p.engines.count spare) pieces left) where
+  table-handed : pieces ++ drop (p.deliveries.count * p.engines.count) table ≡ table_after (unnamed (plan_by p)) table
   unfolding table_after table_by over_front
   table-handed = go (planned (unnamed (plan_by p))).result refl
     where
-      go : (r : Result) → (planned (unnamed (plan_by p))).result ≡ r → pieces ++ drop (p.deliveries * p.engines) table ≡ table_by r table
+      go : (r : search.Result) → (planned (unnamed (plan_by p))).result ≡ r → pieces ++ drop (p.deliveries.count * p.engines.count) table ≡ table_by r table
       go (found tries new) e = rw (own-table a e, found-cells a.usable e)
-      go (none tries) e = rw (a.table, e) (take-append-drop (p.deliveries * p.engines) table)
-      go (stopped tries) e = rw (a.table, e) (take-append-drop (p.deliveries * p.engines) table)
+      go (none tries) e = rw (a.table, e) (take-append-drop (p.deliveries.count * p.engines.count) table)
+      go (stopped tries) e = rw (a.table, e) (take-append-drop (p.deliveries.count * p.engines.count) table)
 
-  spare-handed : left ++ drop p.engines spare ≡ spares_after (unnamed (plan_by p)) spare
+  spare-handed : left ++ drop p.engines.count spare ≡ spares_after (unnamed (plan_by p)) spare
   unfolding spares_after spares_by over_front
   spare-handed = go (planned (unnamed (plan_by p))).result refl
     where
       plan : Plan
       plan = unnamed (plan_by p)
 
-      go : (r : Result) → (planned plan).result ≡ r → left ++ drop p.engines spare ≡ spares_by plan (planned plan).minutes r spare
+      go : (r : search.Result) → (planned plan).result ≡ r → left ++ drop p.engines.count spare ≡ spares_by plan (planned plan).minutes r spare
       go (found tries table) e = rw (own-spare a e, length-spares plan (planned plan).minutes table, (plan-counts a.usable).0)
-      go (none tries) e = rw (a.spare, e) (take-append-drop p.engines spare)
-      go (stopped tries) e = rw (a.spare, e) (take-append-drop p.engines spare)
+      go (none tries) e = rw (a.spare, e) (take-append-drop p.engines.count spare)
+      go (stopped tries) e = rw (a.spare, e) (take-append-drop p.engines.count spare)
 
   -- with its print, which fits
-  pub handed : {n : ℕ} {next : Wrote} {lent out : List ℕ} → longest_print ≤ length lent
-      → PutLines (print_lines answer (delivery_list p) (engine_list p) pieces) (output (Next 0) lent) (output next out) → next ≡ Next n
-      → HandedOver (plan_by p) (Printed answer n) (lent_lists table spare lent)
-      (lent_lists (pieces ++ drop (p.deliveries * p.engines) table) (left ++ drop p.engines spare) out)
+  pub handed : {n : ℕ} {next : Result ℕ WriteError} {lent out : List ℕ} → longest_print ≤ length lent
+      → PutLines (print_lines answer (names_in p.deliveries) (names_in p.engines) pieces) (output (Ok 0) lent) (output next out) → next ≡ Ok n
+      → HandedOver (plan_by p) (Ok (answer, n)) (lent_lists table spare lent)
+      (lent_lists (pieces ++ drop (p.deliveries.count * p.engines.count) table) (left ++ drop p.engines.count spare) out)
   unfolding with_space ◌>>=◌ require answer_by on_exit over_front
   handed {n} {lent = lent} room put e =
       let next-is = print-next a room put in

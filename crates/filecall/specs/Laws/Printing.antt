@@ -1,11 +1,15 @@
 -- The lines of a print one after the other, as loops put them, and by the names of the file. Assumes nothing.
-use Rattle.std.specs.Prelude.{◌≡◌, length, take, drop, get_or}
+use Rattle.std.specs.Prelude.{◌≡◌, length, take, drop, get_or, cond, nat_lt, count_by}
 use Rattle.std.proofs.Math.Path.{refl, sym, ap, fun_ext}
 use Rattle.std.proofs.Common.{ap₂, ◌∙◌, add-one, arith, drop_of_length-le, drop-drop, get_or-take, get_or-drop}
 use mathlib.Core.List.{List, [], ◌∷◌, ◌++◌}
 use Prim.Native.Nat.{ℕ, zero, suc, ◌+◌, ◌*◌, ◌≤◌, ◌<◌}
 use Rattle.std.proofs.Math.Nat.{zero-mul, suc-mul}
 use Rattle.std.proofs.Math.Seq.{drop-cons}
+use Rattle.std.proofs.lemmas.Bool.{lt-ltb}
+use Rattle.std.proofs.lemmas.List.Sums.{sum_by-cons}
+use Rattle.planning.proofs.Laws.Finite.Sums.{positives-front}
+use Rattle.planning.specs.Sum.{sum, sgn, positives}
 use Rattle.planning.specs.Modes.{Planned, answer_of, outcome_of, tries_of}
 use Rattle.planning.specs.Tables.{piece_in, at, cell}
 use Rattle.planning.specs.Search.{Result, found, none, stopped}
@@ -13,12 +17,7 @@ use Rattle.planfile.specs.FilePlan.{FilePlan, engine_names, delivery_names}
 use Rattle.planfile.proofs.Laws.PieceLines.{engines-named}
 use Rattle.planfile.specs.Numerals.{decimal}
 use Rattle.planfile.specs.Print.{Line, line_of, piece_line, row_lines, piece_lines, lines_of, answer_line, answer_lines}
-use Rattle.planreader.specs.Plans.{NamesHeld}
 use Rattle.filecall.specs.Printing.{lines_behind, print_lines}
-
--- of some names the first ones are held
-pub held_to : {n m : ℕ} {names sizes : List ℕ} → NamesHeld n names sizes → m ≤ n → NamesHeld m names sizes
-held_to h l = record { room = omega (arith, h.room); sized = omega (arith, h.sized); short = λ k inside. h.short k (omega arith) }
 
 -- ---- a delivery's lines
 
@@ -102,3 +101,18 @@ print-by-names f a pieces same =
     go (found tries table) e = unfold lines_of lines_behind outcome_of in rw (engines-named f, same tries table e)
     go (none tries) e = unfold lines_of lines_behind outcome_of in refl
     go (stopped tries) e = unfold lines_of lines_behind outcome_of in refl
+
+-- ---- pieces
+
+-- a piece is counted where it is above 0
+sign-counted : (n : ℕ) → cond (nat_lt 0 n) 1 0 ≡ sgn n
+unfolding sgn
+sign-counted zero = refl
+sign-counted (suc n) = rw (lt-ltb 0 (suc n) (omega arith))
+
+pub positives-counted : (pieces : List ℕ) → count_by (λ n. nat_lt 0 n) pieces ≡ positives (length pieces) (at pieces)
+unfolding positives sum
+positives-counted [] = refl
+positives-counted (n ∷ pieces) =
+    sum_by-cons (λ n. cond (nat_lt 0 n) 1 0) n pieces ∙ ap₂ (λ (a b : ℕ). a + b) (sign-counted n) (positives-counted pieces)
+    ∙ sym (positives-front (length pieces) (at (n ∷ pieces)))

@@ -1,9 +1,6 @@
--- The place of the next case is within the input, and behind the one before. Assumes nothing.
-use Rattle.std.proofs.Common.{◌≤◌, ◌-◌, length}
+-- The measure is how much of the input is left. Assumes nothing.
+use Rattle.std.proofs.Common.{length}
 use Rattle.filecall_test.proofs.run_cases.Given as goal
 
-abbrev pub invariant-loop-at : goal.invariant-loop-at
-invariant-loop-at g l = l.at ≤ length l.input
-
-abbrev pub decreases-loop-at : goal.decreases-loop-at
-decreases-loop-at g l = length l.input - l.at
+abbrev pub decreases-loop-rest : goal.decreases-loop-rest
+decreases-loop-rest g l = length l.rest

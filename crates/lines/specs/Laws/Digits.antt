@@ -1,8 +1,10 @@
--- The digits of a number of 64 bits: how many there are, and that they are stored from the last to the first. Assumes nothing.
-use Rattle.std.specs.Prelude.{◌≡◌, List, ℕ, suc, ◌+◌, ◌^◌, ◌≤◌, ◌<◌, length, drop, get_or, set}
-use Rattle.std.proofs.Common.{◌∙◌, add-one, arith, length-set, drop-cons, get_or-set_same, drop-set-lt}
+-- The digits of a number of 64 bits: how many there are, and that std writes the same. Assumes nothing.
+use Rattle.std.specs.Prelude.{◌≡◌, ℕ, ◌^◌, ◌≤◌, ◌<◌, length}
+use Rattle.std.proofs.Common.{sym, arith}
+use Rattle.std.proofs.lemmas.Fmt.{decimal_by_steps}
+use Rattle.std.specs.Fmt.{decimal as std_decimal}
 use Rattle.planfile.specs.Numerals.{decimal}
-use Rattle.planfile.proofs.Laws.Decimals.{decimal-length}
+use Rattle.planfile.proofs.Laws.Decimals.{decimal-length, decimal-one, decimal-more}
 
 -- no number of 64 bits has more digits
 abbrev pub most_digits : ℕ
@@ -11,10 +13,8 @@ most_digits = 20
 pub digits-most : (n : ℕ) → n < 2 ^ 64 → length (decimal n) ≤ most_digits
 digits-most n l = decimal-length n most_digits (omega arith) (omega arith)
 
--- where the entries from k + 1 on are those of a list, so are those from k on once its entry at k is stored
-pub one-before : (all out : List ℕ) (k v : ℕ) → length out ≡ length all → k < length all → drop (k + 1) out ≡ drop (k + 1) all → get_or all k 0 ≡ v
-    → drop k (set out k v) ≡ drop k all
-one-before all out k v same inside behind is =
-    drop-cons (set out k v) k 0 (simp length-set (omega arith))
-    ∙ rw (get_or-set_same out k v 0 (omega arith), drop-set-lt (suc k) out k v (omega arith), ← add-one k, behind, ← is, add-one k)
-    (rw (drop-cons all k 0 inside))
+-- what std writes of a number is what is written here
+pub decimal-std : (n : ℕ) → n < 2 ^ 64 → std_decimal n ≡ decimal n
+decimal-std =
+    decimal_by_steps (λ n digits. digits ≡ decimal n) (λ n small. sym (decimal-one n small))
+    (λ n digits large same. rw same (sym (decimal-more n large)))

@@ -1,5 +1,5 @@
 -- Lines whose values can be written: put text by text they are the bytes that RFC 4180's writer has for them. Assumes nothing.
-use Rattle.std.specs.Prelude.{◌≡◌, refl, true, ℕ, ◌+◌, ◌≤◌, length}
+use Rattle.std.specs.Prelude.{◌≡◌, refl, true, ℕ, ◌+◌, ◌≤◌, length, Result, Ok, Err, IsErrAnd}
 use Rattle.std.proofs.Common.{sym, ap, ◌∙◌}
 use Rattle.std.proofs.lemmas.Bool.{false≢true}
 use Rattle.std.proofs.Math.Bool.{and-eq-true_iff}
@@ -9,11 +9,11 @@ use Rattle.rfc4180.specs.Bytes.{comma, carriage_return, line_feed}
 use Rattle.rfc4180.specs.Writer.{written, written_record, written_line, written_file, writable, writable_record, writable_file}
 use Rattle.planfile.proofs.Laws.Decimals.{decimal-plain, decimal-writable}
 use Rattle.planfile.specs.Numerals.{decimal}
-use Rattle.lines.specs.declared.Wrote.TheVariants.{Next}
+use Rattle.lines.specs.declared.WriteError.{WriteError}
 use Rattle.lines.specs.Lines.{line_texts, file_texts, PutLines}
 use Rattle.lines.specs.Putting.{field, number, Output, output, put_at, Puts}
-use Rattle.lines.specs.Laws.Loops.{TextsLeft, all_left, left-kept, next-put, last-put}
-use Rattle.lines.specs.Laws.Putting.{Joined, joined-none, joined-more, joined-text, joined-append, all-put, no_text, then}
+use Rattle.lines.specs.Laws.Loops.{TextsLeft, all_left, left-kept, next-put, last-put, put-error}
+use Rattle.lines.specs.Laws.Putting.{Joined, joined-none, joined-more, joined-text, joined-append, all-put, no_text, then, then-error}
 use Rattle.lines.specs.Laws.Values.{written-plain}
 
 -- ---- values
@@ -53,8 +53,8 @@ file-joined (line ∷ next ∷ lines) e =
 
 -- where they fit they stand in the output
 pub lines-stand : (lines : List (List (List ℕ))) → writable_file lines ≡ true → (at : ℕ) (lent : List ℕ) → at + length (written_file lines) ≤ length lent
-    → {after : Output} → PutLines lines (output (Next at) lent) after
-    → after ≡ output (Next (at + length (written_file lines))) (put_at at (written_file lines) lent)
+    → {after : Output} → PutLines lines (output (Ok at) lent) after
+    → after ≡ output (Ok (at + length (written_file lines))) (put_at at (written_file lines) lent)
 lines-stand lines e at lent room put = put.texts.all ∙ all-put (file-joined lines e) at lent room
 
 -- a line whose texts are put
@@ -75,6 +75,12 @@ texts-append (line ∷ lines) others = rw (texts-append lines others) (sym (appe
 pub then_lines : {lines others : List (List (List ℕ))} {before between after : Output} → PutLines lines before between → PutLines others between after
     → PutLines (lines ++ others) before after
 then_lines {lines} {others} p q = record { texts = rw (texts-append lines others) (then p.texts q.texts) }
+
+-- an error at some lines ends those behind them too
+pub then_lines-error : (others : List (List (List ℕ))) {lines : List (List (List ℕ))} {before : Output} {error : WriteError} {result : Result ℕ WriteError}
+    {lent : List ℕ} → PutLines lines before (output (Err error) lent) → IsErrAnd result (λ given. given ≡ error)
+    → PutLines (lines ++ others) before (output result lent)
+then_lines-error others {lines} p h = record { texts = rw (texts-append lines others) (then-error (file_texts others) p.texts h) }
 
 -- ---- lines in a loop
 
@@ -97,3 +103,10 @@ lines-put {lines} {others} left parts put = record { texts = next-put left.texts
 pub all_lines : {all : List (List (List ℕ))} {out first : Output} → LinesLeft [] out all first → PutLines all first out
 unfolding file_texts
 all_lines left = record { texts = last-put left.texts no_text }
+
+-- an error at the next of them ends all
+pub lines-error : (others : List (List (List ℕ))) {lines rest all : List (List (List ℕ))} {out first : Output} {error : WriteError}
+    {result : Result ℕ WriteError} {lent : List ℕ} → LinesLeft rest out all first → rest ≡ lines ++ others → PutLines lines out (output (Err error) lent) → IsErrAnd result (λ given. given ≡ error)
+    → PutLines all first (output result lent)
+lines-error others {lines} left parts put h =
+    record { texts = put-error (file_texts others) left.texts (ap file_texts parts ∙ texts-append lines others) put.texts h }

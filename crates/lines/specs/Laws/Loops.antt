@@ -1,8 +1,9 @@
 -- Texts put in a loop. Assumes nothing.
-use Rattle.std.specs.Prelude.{◌≡◌, refl, List, ◌++◌, length}
+use Rattle.std.specs.Prelude.{◌≡◌, refl, List, ◌++◌, ℕ, length, Result, Err, IsErrAnd}
 use Rattle.std.proofs.Common.{sym, ap, ◌∙◌}
-use Rattle.lines.specs.Putting.{Text, Output, put_all, Puts}
-use Rattle.lines.specs.Laws.Putting.{all_append, all-kept}
+use Rattle.lines.specs.declared.WriteError.{WriteError}
+use Rattle.lines.specs.Putting.{Text, Output, output, put_all, Puts}
+use Rattle.lines.specs.Laws.Putting.{all_append, all-kept, then-error}
 
 -- texts that are still to be put: with them the output becomes what all the texts make of it as it was at first
 pub record TextsLeft (texts : List Text) (out : Output) (all : List Text) (first : Output) : Type 0 where
@@ -27,3 +28,9 @@ next-put {texts} {others} {out = out} left parts put =
 -- the last of them are put
 pub last-put : {texts all : List Text} {out after first : Output} → TextsLeft texts out all first → Puts texts out after → Puts all first after
 last-put left put = record { all = put.all ∙ left.makes }
+
+-- an error at the next of them ends all
+pub put-error : (others : List Text) {texts rest all : List Text} {out first : Output} {error : WriteError} {result : Result ℕ WriteError} {lent : List ℕ}
+    → TextsLeft rest out all first → rest ≡ texts ++ others → Puts texts out (output (Err error) lent) → IsErrAnd result (λ given. given ≡ error)
+    → Puts all first (output result lent)
+put-error others left parts put h = last-put left (rw parts (then-error others put h))

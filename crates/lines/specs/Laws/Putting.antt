@@ -1,5 +1,5 @@
 -- Texts put into an output: how far it is written, what it keeps, and what stands in it behind a chain of them. Assumes nothing.
-use Rattle.std.specs.Prelude.{◌≡◌, Bool, true, leb, take}
+use Rattle.std.specs.Prelude.{◌≡◌, Bool, true, leb, take, Result, Ok, Err, IsErrAnd}
 use Rattle.std.proofs.Math.Path.{refl, ap}
 use Rattle.std.proofs.Common.{sym, subst, ◌∙◌, add-zero, take-append-drop, length-drop, length-take-le, drop_at, drop-drop, le-leb, leb-true}
 use Rattle.std.proofs.Math.Bool.{false}
@@ -11,8 +11,8 @@ use native.Mathlib.Omega.{arith}
 use Rattle.std.proofs.Math.ListN.{length, drop, length-append}
 use Rattle.std.proofs.Math.Seq.{take_at, drop-append-add}
 use Rattle.std.proofs.lemmas.Bool.{lt-leb}
-use Rattle.lines.specs.declared.Wrote.{Wrote}
-use Rattle.lines.specs.declared.Wrote.TheVariants.{Next, Refused, TooLong}
+use Rattle.lines.specs.declared.WriteError.{WriteError}
+use Rattle.lines.specs.declared.WriteError.TheVariants.{Refused, TooLong}
 use Rattle.lines.specs.Putting.{Text, Output, output, put_at, put_if, put_next, put, put_all, between, Puts, Writes}
 
 -- ---- bytes at a place
@@ -60,21 +60,24 @@ module _ (at : ℕ) (bytes lent : List ℕ) (room : at + length bytes ≤ length
 
 -- ---- one text
 
--- where there is no next place nothing is put
-pub put-stopped : (text : Text) (next : Wrote) (lent : List ℕ) → ((at : ℕ) → next ≡ Next at → ⊥) → put text (output next lent) ≡ output next lent
+-- behind an error nothing is put
+pub put-stopped : (text : Text) (error : WriteError) (lent : List ℕ) → put text (output (Err error) lent) ≡ output (Err error) lent
 unfolding put put_next
-put-stopped text (Next at) lent n = absurd (n at refl)
-put-stopped text Refused lent n = refl
-put-stopped text TooLong lent n = refl
+put-stopped text error lent = refl
+
+-- a value that cannot be written
+pub put-refused : (at : ℕ) (lent : List ℕ) → put none (output (Ok at) lent) ≡ output (Err Refused) lent
+unfolding put put_next
+put-refused at lent = refl
 
 -- bytes that fit, and bytes that do not
 pub put-fits : (at : ℕ) (bytes lent : List ℕ) → at + length bytes ≤ length lent
-    → put (some bytes) (output (Next at) lent) ≡ output (Next (at + length bytes)) (put_at at bytes lent)
+    → put (some bytes) (output (Ok at) lent) ≡ output (Ok (at + length bytes)) (put_at at bytes lent)
 unfolding put put_next put_if
 put-fits at bytes lent room = rw (le-leb (at + length bytes) (length lent) room)
 
 pub put-long : (at : ℕ) (bytes lent : List ℕ) → length lent < at + length bytes
-    → put (some bytes) (output (Next at) lent) ≡ output TooLong lent
+    → put (some bytes) (output (Ok at) lent) ≡ output (Err TooLong) lent
 unfolding put put_next put_if
 put-long at bytes lent over = rw (lt-leb (at + length bytes) (length lent) over)
 
@@ -82,26 +85,25 @@ put-long at bytes lent over = rw (lt-leb (at + length bytes) (length lent) over)
 pub record Written (text : Text) (out : Output) (to : ℕ) : Type 0 where
   pub from : ℕ
   pub bytes : List ℕ
-  pub starts : out.next ≡ Next from
+  pub starts : out.next ≡ Ok from
   pub is : text ≡ some bytes
   pub room : from + length bytes ≤ length out.bytes
   pub ends : to ≡ from + length bytes
 
-next-by : (fits : Bool) (at : ℕ) (bytes lent : List ℕ) (to : ℕ) → (put_if fits at bytes lent).next ≡ Next to → (fits ≡ true) × (to ≡ at + length bytes)
+next-by : (fits : Bool) (at : ℕ) (bytes lent : List ℕ) (to : ℕ) → (put_if fits at bytes lent).next ≡ Ok to → (fits ≡ true) × (to ≡ at + length bytes)
 unfolding put_if
 next-by true at bytes lent to e = (refl, cc)
 next-by false at bytes lent to e = let z : ◌≡◌ {A = ℕ} 0 1 = cc in absurd (omega arith)
 
-written_next : (text : Text) (next : Wrote) (lent : List ℕ) (to : ℕ) → (put_next text next lent).next ≡ Next to → Written text (output next lent) to
+written_next : (text : Text) (next : Result ℕ WriteError) (lent : List ℕ) (to : ℕ) → (put_next text next lent).next ≡ Ok to → Written text (output next lent) to
 unfolding put_next
-written_next text Refused lent to e = let z : ◌≡◌ {A = ℕ} 0 1 = cc in absurd (omega arith)
-written_next text TooLong lent to e = let z : ◌≡◌ {A = ℕ} 0 1 = cc in absurd (omega arith)
-written_next none (Next at) lent to e = let z : ◌≡◌ {A = ℕ} 0 1 = cc in absurd (omega arith)
-written_next (some bytes) (Next at) lent to e =
+written_next text (Err error) lent to e = let z : ◌≡◌ {A = ℕ} 0 1 = cc in absurd (omega arith)
+written_next none (Ok at) lent to e = let z : ◌≡◌ {A = ℕ} 0 1 = cc in absurd (omega arith)
+written_next (some bytes) (Ok at) lent to e =
     let (fits, ends) = next-by (leb (at + length bytes) (length lent)) at bytes lent to e in
     record { from = at; bytes = bytes; starts = refl; is = refl; room = leb-true (at + length bytes) (length lent) fits; ends = ends }
 
-pub put_written : (text : Text) (out : Output) (to : ℕ) → (put text out).next ≡ Next to → Written text out to
+pub put_written : (text : Text) (out : Output) (to : ℕ) → (put text out).next ≡ Ok to → Written text out to
 unfolding put
 put_written text out to e = written_next text out.next out.bytes to e
 
@@ -112,6 +114,12 @@ unfolding put_all
 all_append [] others out = refl
 all_append (text ∷ texts) others out = all_append texts others (put text out)
 
+-- behind an error no text is put
+all-stopped : (texts : List Text) (error : WriteError) (lent : List ℕ) → put_all texts (output (Err error) lent) ≡ output (Err error) lent
+unfolding put_all
+all-stopped [] error lent = refl
+all-stopped (text ∷ texts) error lent = ap (put_all texts) (put-stopped text error lent) ∙ all-stopped texts error lent
+
 -- what some texts and then others make of an output
 pub no_text : {out : Output} → Puts [] out out
 unfolding put_all
@@ -121,13 +129,22 @@ pub then : {texts others : List Text} {before between after : Output} → Puts t
     → Puts (texts ++ others) before after
 then {texts} {others} {before} p q = record { all = q.all ∙ ap (put_all others) p.all ∙ sym (all_append texts others before) }
 
+-- an error at some texts, passed on by a `?`, ends those behind them too
+pub passed_on : {T E : Type 0} {error : E} (result : Result T E) → IsErrAnd result (λ given. given ≡ error) → result ≡ Err error
+passed_on (Ok x) h = absurd h
+passed_on (Err given) h = rw h
+
+pub then-error : (others : List Text) {texts : List Text} {before : Output} {error : WriteError} {result : Result ℕ WriteError} {lent : List ℕ}
+    → Puts texts before (output (Err error) lent) → IsErrAnd result (λ given. given ≡ error) → Puts (texts ++ others) before (output result lent)
+then-error others {error = error} {result = result} {lent = lent} p h =
+    rw (passed_on result h) (then p (record { all = sym (all-stopped others error lent) }))
+
 -- the output is as long as it was
-put-kept : (text : Text) (next : Wrote) (lent : List ℕ) → length (put_next text next lent).bytes ≡ length lent
+put-kept : (text : Text) (next : Result ℕ WriteError) (lent : List ℕ) → length (put_next text next lent).bytes ≡ length lent
 unfolding put_next
-put-kept text Refused lent = refl
-put-kept text TooLong lent = refl
-put-kept none (Next at) lent = refl
-put-kept (some bytes) (Next at) lent = go (leb (at + length bytes) (length lent)) refl
+put-kept text (Err error) lent = refl
+put-kept none (Ok at) lent = refl
+put-kept (some bytes) (Ok at) lent = go (leb (at + length bytes) (length lent)) refl
   where
     go : (fits : Bool) → leb (at + length bytes) (length lent) ≡ fits → length (put_if fits at bytes lent).bytes ≡ length lent
     go true e = unfold put_if in put-length at bytes lent (leb-true (at + length bytes) (length lent) e)
@@ -155,7 +172,7 @@ joined-append {more = more} (joined-more {bytes = bytes} {others = others} i) j 
 
 -- where they all fit, they stand there
 pub all-put : {texts : List Text} {bytes : List ℕ} → Joined texts bytes → (at : ℕ) (lent : List ℕ) → at + length bytes ≤ length lent
-    → put_all texts (output (Next at) lent) ≡ output (Next (at + length bytes)) (put_at at bytes lent)
+    → put_all texts (output (Ok at) lent) ≡ output (Ok (at + length bytes)) (put_at at bytes lent)
 unfolding put_all
 all-put joined-none at lent room = rw (add-zero at, put-none at lent)
 all-put (joined-more {bytes = bytes} {others = others} {texts = texts} j) at lent room =
@@ -169,12 +186,12 @@ all-put (joined-more {bytes = bytes} {others = others} {texts = texts} j) at len
 pub record AllWritten (texts : List Text) (out : Output) (to : ℕ) : Type 0 where
   pub from : ℕ
   pub bytes : List ℕ
-  pub starts : out.next ≡ Next from
+  pub starts : out.next ≡ Ok from
   pub joins : Joined texts bytes
   pub room : from + length bytes ≤ length out.bytes
   pub ends : to ≡ from + length bytes
 
-pub all-written : (text : Text) (texts : List Text) (out : Output) (to : ℕ) → (put_all (text ∷ texts) out).next ≡ Next to
+pub all-written : (text : Text) (texts : List Text) (out : Output) (to : ℕ) → (put_all (text ∷ texts) out).next ≡ Ok to
     → AllWritten (text ∷ texts) out to
 unfolding put_all
 all-written text [] out to e =
@@ -202,16 +219,16 @@ all-written text (next ∷ texts) out to e =
 
 -- so they stand from the place before up to the place behind, within the output
 module _ {text : Text} {texts : List Text} {before after : Output} (put : Puts (text ∷ texts) before after) where
-  written_all : {to : ℕ} → after.next ≡ Next to → AllWritten (text ∷ texts) before to
+  written_all : {to : ℕ} → after.next ≡ Ok to → AllWritten (text ∷ texts) before to
   written_all {to} e = all-written text texts before to (rw put.all at e)
 
-  pub next-inside : {to : ℕ} → after.next ≡ Next to → to ≤ length after.bytes
+  pub next-inside : {to : ℕ} → after.next ≡ Ok to → to ≤ length after.bytes
   next-inside e =
       let w = written_all e in
       omega (arith, w.room, w.ends, ap (λ (o : Output). length o.bytes) put.all, all-kept (text ∷ texts) before)
 
-  stand : {to : ℕ} (e : after.next ≡ Next to) → let w = written_all e in
-      after ≡ output (Next (w.from + length w.bytes)) (put_at w.from w.bytes before.bytes)
+  stand : {to : ℕ} (e : after.next ≡ Ok to) → let w = written_all e in
+      after ≡ output (Ok (w.from + length w.bytes)) (put_at w.from w.bytes before.bytes)
   stand e =
       let w = written_all e in
       put.all ∙ ap (λ next. put_all (text ∷ texts) (output next before.bytes)) w.starts
@@ -220,7 +237,7 @@ module _ {text : Text} {texts : List Text} {before after : Output} (put : Puts (
   pub writes : (Reads : List ℕ → Type 0) → ((bytes : List ℕ) → Joined (text ∷ texts) bytes → Reads bytes) → Writes (text ∷ texts) Reads before after
   writes Reads meant = record { puts = put; reads = read }
     where
-      read : (from to : ℕ) → before.next ≡ Next from → after.next ≡ Next to → Reads (between from to after.bytes)
+      read : (from to : ℕ) → before.next ≡ Ok from → after.next ≡ Ok to → Reads (between from to after.bytes)
       read from to s e =
           let w = written_all e in
           let same : w.from ≡ from = cc in

@@ -1,65 +1,59 @@
--- A value from a place on, as a walk along it meets it: what the writer's definitions say of the byte there and of the rest.
--- Assumes nothing.
-use Rattle.std.specs.Prelude.{◌≡◌, refl, ℕ, suc, ◌+◌, ◌<◌, Bool, true, false, cond, ◌&&◌, ◌||◌, List, [], ◌∷◌, ◌++◌, eqb, length, drop, get_or}
-use Rattle.std.proofs.Common.{sym, ◌∙◌, arith, true≢false}
-use borrow.Author.Tests.{eqb-true, eq-eqb, ne_eqb}
-use Rattle.rfc4180.specs.declared.ByteClass.{ByteClass}
-use Rattle.rfc4180.specs.declared.ByteClass.TheVariants.{Text, Quote, Comma, CarriageReturn, LineFeed, Refused}
+-- What the writer's definitions ask of each byte of a value, and what a walk along it meets at a place. Assumes nothing.
+use Rattle.std.specs.Prelude.{◌≡◌, refl, ℕ, suc, ◌+◌, ◌<◌, Bool, true, false, cond, not, ◌&&◌, ◌||◌, List, [], ◌∷◌, ◌++◌, ◌==◌, eqb, length, drop, get_or, count_by}
+use Rattle.std.specs.List.{list_all}
+use Rattle.std.proofs.Common.{ap, sym, ◌∙◌, arith}
+use Rattle.std.proofs.lemmas.List.Sums.{sum_by-cons}
+use Rattle.std.proofs.Math.Bool.{and-false, and-eq-true_iff}
+use borrow.Author.Tests.{not-true, not-false, eq-eqb, ne_eqb}
 use Rattle.rfc4180.specs.Bytes.{quote, class_of}
 use Rattle.rfc4180.specs.Writer.{asks_for_quotes, needs_quotes, doubled, written, is_allowed, writable, quote_count}
-use Rattle.rfc4180.proofs.Laws.Classes.{class_means}
 use Rattle.rfc4180.proofs.Laws.Places.{bytes-from}
 
--- the bytes that count as quotes
-abbrev pub is_quote : ByteClass → Bool
-is_quote Text = false
-is_quote Quote = true
-is_quote Comma = false
-is_quote CarriageReturn = false
-is_quote LineFeed = false
-is_quote Refused = false
+-- what is asked of each byte
+pub writable_all : (value : List ℕ) → writable value ≡ list_all (λ b. is_allowed (class_of b)) value
+unfolding writable
+writable_all [] = refl
+writable_all (b ∷ rest) = ap (λ t. is_allowed (class_of b) && t) (writable_all rest)
 
-quote-is : (b : ℕ) → b ≡ quote → true ≡ is_quote (class_of b)
-unfolding class_of
-quote-is b e = rw e
+-- as it is: it can be written, and no byte wants quotes
+bare-both : (allowed asks writes quoted : Bool) → ((allowed && not asks) && (writes && not quoted)) ≡ ((allowed && writes) && not (asks || quoted))
+bare-both true true writes quoted = sym (and-false writes)
+bare-both true false writes quoted = refl
+bare-both false asks writes quoted = refl
 
-other_class : (b : ℕ) (k : ByteClass) → class_of b ≡ k → eqb b quote ≡ false → is_quote k ≡ false
-other_class b Text e p = refl
-other_class b Quote e p = absurd (true≢false (sym (eq-eqb b quote (class_means b e)) ∙ p))
-other_class b Comma e p = refl
-other_class b CarriageReturn e p = refl
-other_class b LineFeed e p = refl
-other_class b Refused e p = refl
+pub plain_all : (value : List ℕ) → list_all (λ b. is_allowed (class_of b) && not (asks_for_quotes (class_of b))) value
+    ≡ (writable value && not (needs_quotes value))
+unfolding writable needs_quotes
+plain_all [] = refl
+plain_all (b ∷ rest) =
+    ap (λ t. (is_allowed (class_of b) && not (asks_for_quotes (class_of b))) && t) (plain_all rest)
+    ∙ bare-both (is_allowed (class_of b)) (asks_for_quotes (class_of b)) (writable rest) (needs_quotes rest)
 
--- the byte of the class Quote is the quote
-quote_class : (b : ℕ) → eqb b quote ≡ is_quote (class_of b)
-quote_class b = go (eqb b quote) refl
-  where
-    go : (t : Bool) → eqb b quote ≡ t → eqb b quote ≡ is_quote (class_of b)
-    go true p = p ∙ quote-is b (eqb-true b quote p)
-    go false p = p ∙ sym (other_class b (class_of b) refl p)
+-- a value that is written as it is, and one that can be written and is not
+pub plain_value : (value : List ℕ) {found : Bool} → found ≡ list_all (λ b. is_allowed (class_of b) && not (asks_for_quotes (class_of b))) value
+    → found ≡ true → (writable value ≡ true) × (needs_quotes value ≡ false)
+plain_value value is e =
+    let both = (and-eq-true_iff (writable value) (not (needs_quotes value))).0 (sym (plain_all value) ∙ sym is ∙ e) in
+    (both.0, not-true (needs_quotes value) both.1)
 
--- how many quotes a byte of a class is
-abbrev pub quotes_in : ByteClass → ℕ
-quotes_in k = cond (is_quote k) 1 0
+pub quoted_value : (value : List ℕ) {found : Bool} → found ≡ list_all (λ b. is_allowed (class_of b) && not (asks_for_quotes (class_of b))) value
+    → found ≡ false → writable value ≡ true → needs_quotes value ≡ true
+quoted_value value is e writes =
+    let bare = rw writes at (sym (plain_all value) ∙ sym is ∙ e) in
+    not-false (needs_quotes value) bare
 
 counted : (t : Bool) (n : ℕ) → cond t (suc n) n ≡ cond t 1 0 + n
 counted true n = omega arith
 counted false n = omega arith
 
+pub quote_count_by : (value : List ℕ) → quote_count value ≡ count_by (λ b. b == quote) value
+unfolding quote_count
+quote_count_by [] = refl
+quote_count_by (b ∷ rest) =
+    counted (eqb b quote) (quote_count rest) ∙ ap (λ n. cond (eqb b quote) 1 0 + n) (quote_count_by rest)
+    ∙ sym (sum_by-cons (λ b. cond (b == quote) 1 0) b rest)
+
 module _ (value : List ℕ) (i : ℕ) (within : i < length value) where
-  pub writable-at : writable (drop i value) ≡ is_allowed (class_of (get_or value i 0)) && writable (drop (i + 1) value)
-  unfolding writable
-  writable-at = rw (bytes-from value i within)
-
-  pub needs_quotes-at : needs_quotes (drop i value) ≡ asks_for_quotes (class_of (get_or value i 0)) || needs_quotes (drop (i + 1) value)
-  unfolding needs_quotes
-  needs_quotes-at = rw (bytes-from value i within)
-
-  pub quote-count-at : quote_count (drop i value) ≡ quotes_in (class_of (get_or value i 0)) + quote_count (drop (i + 1) value)
-  unfolding quote_count
-  quote-count-at = rw (bytes-from value i within, quote_class (get_or value i 0)) (counted (is_quote (class_of (get_or value i 0))) (quote_count (drop (i + 1) value)))
-
   -- a quote is written twice
   pub doubled-quote : get_or value i 0 ≡ quote → doubled (drop i value) ≡ quote ∷ get_or value i 0 ∷ doubled (drop (i + 1) value)
   unfolding doubled

@@ -1,12 +1,11 @@
 -- Calls with a file: what is returned and what the lent tables and the output then hold, by evaluation. Row 9 of document 01's
 -- table "Turned down" is here, and row 1 for a file above 32,768 bytes.
 -- Assumes nothing.
-use Rattle.std.specs.Prelude.{◌≡◌, refl, ℕ, ◌+◌, ◌-◌, List, [], ◌∷◌, ◌++◌, replicate}
+use Rattle.std.specs.Prelude.{◌≡◌, refl, ℕ, ◌+◌, ◌-◌, List, [], ◌∷◌, ◌++◌, replicate, Ok, Err}
 use Rattle.rfc4180.specs.Text.{ascii}
 use Rattle.planning.specs.declared.Fault.{Fault}
 use Rattle.planning.specs.declared.Fault.TheVariants.{Size, Fields, NoEngine, Space}
 use Rattle.planning.specs.declared.Outcome.TheVariants.{Found, None, Stopped}
-use Rattle.planfile.specs.declared.FileAnswer.TheVariants.{Printed, Refused}
 use Rattle.planfile.proofs.Examples.Evaluation.{CallExample, called_all}
 use Rattle.planfile.specs.FileCall.{FileCall}
 
@@ -33,7 +32,7 @@ turned_down : Fault → FileCall → CallExample
 turned_down fault call =
     record {
       given = call;
-      answer = Refused (record { fault = fault; place = 0 });
+      answer = Err (record { fault = fault; place = 0 });
       table = call.table;
       spare = call.spare;
       output = call.output;
@@ -45,7 +44,7 @@ calls =
     -- found fills from the front and keeps the others
     record {
       given = lent printed_input cells engines 80;
-      answer = Printed (record { outcome = Found; minutes = 60; tries = 2 }) 68;
+      answer = Ok (record { outcome = Found; minutes = 60; tries = 2 }, 68);
       table = 3000 ∷ 2000 ∷ 0 ∷ 3000 ∷ replicate (cells - 4) 7;
       spare = 0 ∷ 0 ∷ replicate (engines - 2) 8;
       output = ascii "found,60,2,3\r\npiece,D1,E1,3000\r\npiece,D1,E2,2000\r\npiece,D2,E2,3000\r\n" ++ replicate 12 9;
@@ -53,14 +52,14 @@ calls =
     -- none and stopped write only the print
     ∷ record {
       given = lent (ascii "plan,fixed,60,100\r\nengine,E1,5,5\r\ndelivery,D1,6,1") cells engines 13;
-      answer = Printed (record { outcome = None; minutes = 60; tries = 0 }) 13;
+      answer = Ok (record { outcome = None; minutes = 60; tries = 0 }, 13);
       table = replicate cells 7;
       spare = replicate engines 8;
       output = ascii "none,60,0,0\r\n";
     }
     ∷ record {
       given = lent (ascii "plan,fixed,60,0\r\nengine,E1,5,5\r\ndelivery,D1,5,1") cells engines 20;
-      answer = Printed (record { outcome = Stopped; minutes = 60; tries = 0 }) 16;
+      answer = Ok (record { outcome = Stopped; minutes = 60; tries = 0 }, 16);
       table = replicate cells 7;
       spare = replicate engines 8;
       output = ascii "stopped,60,0,0\r\n" ++ replicate 4 9;
@@ -82,7 +81,7 @@ calls =
     ∷ turned_down Size (lent (replicate 32769 0x61) cells engines 80)
     ∷ record {
       given = lent (replicate 32768 0x61) cells engines 80;
-      answer = Refused (record { fault = Fields; place = 1 });
+      answer = Err (record { fault = Fields; place = 1 });
       table = replicate cells 7;
       spare = replicate engines 8;
       output = replicate 80 9;

@@ -1,16 +1,17 @@
 -- What the definitions make of a file, from input bytes to output bytes, by evaluation.
 -- Assumes nothing.
-use Rattle.std.specs.Prelude.{ℕ, List, map}
+use Rattle.std.specs.Prelude.{ℕ, List, map, Result}
 use Prim.Native.String.{String}
 use Rattle.rfc4180.specs.Fields.{field_values}
 use Rattle.rfc4180.specs.Records.{records}
 use Rattle.rfc4180.specs.Text.{ascii}
 use Rattle.rfc4180.specs.Writer.{written_file}
+use Rattle.planning.specs.declared.Answer.{Answer}
+use Rattle.planning.specs.declared.Refusal.{Refusal}
 use Rattle.planning.proofs.Examples.Evaluation.{evaluated}
 use Rattle.planning.specs.Numbers.{within, engines_of}
 use Rattle.planning.specs.Quiet.{spans_of, clear, clear_of, fits}
 use Rattle.planning.specs.Refusals.{fault_number}
-use Rattle.planfile.specs.declared.FileAnswer.{FileAnswer}
 use Rattle.planfile.specs.FileCall.{FileCall, printed, read_call, answer_by, answer_to_file, on_exit, file_table, file_spare, file_output, program_by, program_print}
 use Rattle.planfile.specs.FilePlan.{unnamed}
 use Rattle.planfile.specs.Numerals.{value_behind, all_digits, number_of, decimal_within, decimal}
@@ -34,7 +35,7 @@ printed_all examples = map (λ (e : Example). record { file = e.file; print = pr
 -- a call with a file, what it returns, and what the lent tables and the output then hold
 pub record CallExample : Type 0 where
   pub given : FileCall
-  pub answer : FileAnswer
+  pub answer : Result (Answer × ℕ) Refusal
   pub table : List ℕ
   pub spare : List ℕ
   pub output : List ℕ

@@ -1,7 +1,7 @@
 -- The call that prints its refusal too prints as the program `planner` does, where it is lent what the program brings: document 01's print
 -- of the input, and never a refusal by 9.
 -- Assumes nothing.
-use Rattle.std.specs.Prelude.{◌≡◌, ◌≢◌, Bool, true, false, cond, ℕ, ◌+◌, ◌≤◌, ◌<◌, drop, get_or, leb}
+use Rattle.std.specs.Prelude.{◌≡◌, ◌≢◌, Bool, true, false, cond, ℕ, ◌+◌, ◌≤◌, ◌<◌, drop, get_or, leb, Result, Ok, Err}
 use Rattle.std.proofs.Math.Path.{refl}
 use Rattle.std.proofs.Common.{sym, ap, ◌∙◌}
 use mathlib.Core.List.{List, [], ◌∷◌}
@@ -26,8 +26,6 @@ use Rattle.planning.specs.Tables.{over_front}
 use Rattle.planning.specs.Numbers.{within}
 use Rattle.planning.specs.Refusals.{fault_number}
 use Rattle.planfile.specs.Bounds.{most_bytes}
-use Rattle.planfile.specs.declared.FileAnswer.{FileAnswer}
-use Rattle.planfile.specs.declared.FileAnswer.TheVariants.{Printed, Refused}
 use Rattle.planfile.specs.FileCall.{FileCall, printed, read_call, answer_by, answer_to_file, on_exit, file_output, print_length_by, print_length, print_output_by, print_output, program_by, program_print}
 use Rattle.planfile.specs.FilePlan.{FilePlan, unnamed}
 use Rattle.planfile.proofs.Laws.Decimals.{decimal-read}
@@ -95,8 +93,8 @@ module _ (bytes : List ℕ) (refusal : Refusal) (e : read_file bytes ≡ refused
 -- ---- a refusal's line
 
 -- what is promised of a line that stands at the front where it has space
-pub refusal-written : (refusal : Refusal) {lent out : List ℕ} {n : ℕ} → n ≡ print_length_by (Refused refusal) (length lent)
-    → out ≡ print_output_by (Refused refusal) lent → RefusalWritten refusal lent n out
+pub refusal-written : (refusal : Refusal) {lent out : List ℕ} {n : ℕ} → n ≡ print_length_by (Err refusal) (length lent)
+    → out ≡ print_output_by (Err refusal) lent → RefusalWritten refusal lent n out
 refusal-written refusal {lent} {out} {n} size stands = record { result = size; output = stands; reads = read }
   where
     go : (t : Bool) → n ≡ cond t (length (refusal_print refusal)) 0 → out ≡ cond t (over_front (refusal_print refusal) lent) lent → 0 < n
@@ -125,12 +123,12 @@ module _ (refusal : Refusal) {lent : List ℕ} where
 -- ---- what the call prints
 
 -- the print of a call by its answer
-module _ (call : FileCall) {r : FileAnswer} {table spare output : List ℕ} (promised : FilePromised call r table spare output) where
-  pub call-printed : {a : Answer} {n : ℕ} → r ≡ Printed a n → (n ≡ print_length call) × (output ≡ print_output call)
+module _ (call : FileCall) {r : Result (Answer × ℕ) Refusal} {table spare output : List ℕ} (promised : FilePromised call r table spare output) where
+  pub call-printed : {a : Answer} {n : ℕ} → r ≡ Ok (a, n) → (n ≡ print_length call) × (output ≡ print_output call)
   unfolding print_length print_output print_length_by print_output_by
   call-printed e = (rw (← promised.result, e), promised.output ∙ rw (← promised.result, e))
 
-  pub call-refused : {refusal : Refusal} → r ≡ Refused refusal → {n : ℕ} {output' : List ℕ} → RefusalWritten refusal output n output'
+  pub call-refused : {refusal : Refusal} → r ≡ Err refusal → {n : ℕ} {output' : List ℕ} → RefusalWritten refusal output n output'
       → (n ≡ print_length call) × (output' ≡ print_output call)
   unfolding print_length print_output
   call-refused {refusal} e wrote =

@@ -3,7 +3,7 @@
 -- Assumes nothing.
 pub mod Calls
 pub mod Answered
-use Rattle.std.specs.Prelude.{◌≡◌, ◌⊎◌, List, ℕ, take}
+use Rattle.std.specs.Prelude.{◌≡◌, ◌⊎◌, List, ℕ, take, Result, Ok, Err}
 use Rattle.std.proofs.Math.Path.{refl, ap}
 use Rattle.std.proofs.Common.{sym, subst, ◌∙◌, arith}
 use Rattle.std.proofs.Math.Logic.{⊎_elim}
@@ -14,8 +14,6 @@ use Rattle.planning.proofs.Laws.Promises.{none-exactly, shortest_time, fixed_tim
 use Rattle.planning.specs.declared.Outcome.TheVariants.{Found}
 use Rattle.planning.specs.Modes.{planned, answer_of, outcome_of, table_after, spares_after}
 use Rattle.planning.specs.Tables.{over_front}
-use Rattle.planfile.specs.declared.FileAnswer.{FileAnswer}
-use Rattle.planfile.specs.declared.FileAnswer.TheVariants.{Printed, Refused}
 use Rattle.planfile.specs.FileCall.{FileCall, printed, read_call, answer_by, answer_to_file, on_exit, file_table, file_spare, file_output}
 use Rattle.planfile.specs.FilePlan.{FilePlan, unnamed}
 use Rattle.planfile.specs.Holding.{Holds}
@@ -29,7 +27,7 @@ use Rattle.planfile.proofs.Laws.Promises.Answered.{table-after, spares-add, read
 
 -- ---- the result taken apart
 
-refused-by : (m : Read FilePlan) {refusal : Refusal} → answer_by m ≡ Refused refusal → m ≡ refused refusal
+refused-by : (m : Read FilePlan) {refusal : Refusal} → answer_by m ≡ Err refusal → m ≡ refused refusal
 unfolding answer_by
 refused-by (refused refusal) e = cc
 refused-by (accepted f) e = cc
@@ -40,27 +38,29 @@ record Answering (call : FileCall) (f : FilePlan) (a : Answer) (n : ℕ) : Type 
   answer : answer_of (planned (unnamed f)) ≡ a
   size : length (printed f) ≡ n
 
-answered-by : (call : FileCall) (m : Read FilePlan) {a : Answer} {n : ℕ} → read_call call ≡ m → answer_by m ≡ Printed a n
+answered-by : (call : FileCall) (m : Read FilePlan) {a : Answer} {n : ℕ} → read_call call ≡ m → answer_by m ≡ Ok (a, n)
     → (f : FilePlan) × Answering call f a n
 unfolding answer_by
 answered-by call (refused refusal) read e = let z : ◌≡◌ {A = ℕ} 0 1 = cc in absurd (omega arith)
-answered-by call (accepted f) read e = (f, record { read = read; answer = cc; size = cc })
+answered-by call (accepted f) {a} {n} read e =
+    let pair : ◌≡◌ {A = Answer × ℕ} (answer_of (planned (unnamed f)), length (printed f)) (a, n) = cc in
+    (f, record { read = read; answer = ap (λ (p : Answer × ℕ). p.0) pair; size = ap (λ (p : Answer × ℕ). p.1) pair })
 
 -- ---- the clauses
 
-module _ (call : FileCall) {r : FileAnswer} (result : r ≡ answer_to_file call) where
-  some-answering : {a : Answer} {n : ℕ} → r ≡ Printed a n → (f : FilePlan) × Answering call f a n
+module _ (call : FileCall) {r : Result (Answer × ℕ) Refusal} (result : r ≡ answer_to_file call) where
+  some-answering : {a : Answer} {n : ℕ} → r ≡ Ok (a, n) → (f : FilePlan) × Answering call f a n
   unfolding answer_to_file
   some-answering e = answered-by call (read_call call) refl (sym result ∙ e)
 
   -- with the plan that the file holds
-  answering : {a : Answer} {n : ℕ} {f : FilePlan} → r ≡ Printed a n → Holds call.file f → Answering call f a n
+  answering : {a : Answer} {n : ℕ} {f : FilePlan} → r ≡ Ok (a, n) → Holds call.file f → Answering call f a n
   answering {a} {n} e h =
       let (g, x) = some-answering e in
       let (ok, same) = accepted-call call x.read in
       subst (λ (f : FilePlan). Answering call f a n) (sym same ∙ holds_unique ok.held h) x
 
-  refusing : {refusal : Refusal} → r ≡ Refused refusal → read_call call ≡ refused refusal
+  refusing : {refusal : Refusal} → r ≡ Err refusal → read_call call ≡ refused refusal
   unfolding answer_to_file
   refusing e = refused-by (read_call call) (sym result ∙ e)
 

@@ -13,22 +13,22 @@ as-program : (call : FileCall) → length call.table ≡ most_cells → length c
 unfolding PrintsAsProgram
 as-program call table spare output p q = (rw (p, q) (prints_as_program call table spare output), rw (p, q) (print-inside call))
 
-pub returns-in-Printed-clause-print : goal.returns-in-Printed-clause-print
-returns-in-Printed-clause-print c =
-    let print = call-printed _ c.plan_file-answer.ensures c.in-Printed.is in
+pub returns-in-Ok-clause-print : goal.returns-in-Ok-clause-print
+returns-in-Ok-clause-print c =
+    let print = call-printed _ c.plan_file.ensures c.in-Ok.is in
     (as-program _ refl refl (omega (arith, c.requires)) print.0 print.1).0
 
-pub returns-in-Printed-clause-within : goal.returns-in-Printed-clause-within
-returns-in-Printed-clause-within c =
-    let print = call-printed _ c.plan_file-answer.ensures c.in-Printed.is in
+pub returns-in-Ok-clause-within : goal.returns-in-Ok-clause-within
+returns-in-Ok-clause-within c =
+    let print = call-printed _ c.plan_file.ensures c.in-Ok.is in
     (as-program _ refl refl (omega (arith, c.requires)) print.0 print.1).1
 
-pub returns-in-Refused-clause-print : goal.returns-in-Refused-clause-print
-returns-in-Refused-clause-print c =
-    let print = call-refused _ c.plan_file-answer.ensures c.in-Refused.is c.write_refusal.ensures in
+pub returns-in-Err-clause-print : goal.returns-in-Err-clause-print
+returns-in-Err-clause-print c =
+    let print = call-refused _ c.plan_file.ensures c.in-Err.is c.write_refusal.ensures in
     (as-program _ refl refl (omega (arith, c.requires)) print.0 print.1).0
 
-pub returns-in-Refused-clause-within : goal.returns-in-Refused-clause-within
-returns-in-Refused-clause-within c =
-    let print = call-refused _ c.plan_file-answer.ensures c.in-Refused.is c.write_refusal.ensures in
+pub returns-in-Err-clause-within : goal.returns-in-Err-clause-within
+returns-in-Err-clause-within c =
+    let print = call-refused _ c.plan_file.ensures c.in-Err.is c.write_refusal.ensures in
     (as-program _ refl refl (omega (arith, c.requires)) print.0 print.1).1

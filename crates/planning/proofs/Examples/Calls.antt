@@ -1,14 +1,14 @@
 -- Calls of the allocation on numbers: what is returned and what the lent table and spare list then hold, by evaluation.
 -- Assumes nothing.
-use Rattle.std.specs.Prelude.{◌≡◌, refl, ℕ, replicate}
+use Rattle.std.specs.Prelude.{◌≡◌, refl, ℕ, replicate, Result, Ok, Err}
 use mathlib.Core.List.{List, [], ◌∷◌, map, zip_with}
-use Rattle.planning.specs.declared.Allocation.{Allocation}
-use Rattle.planning.specs.declared.Allocation.TheVariants.{Answered, Refused}
+use Rattle.planning.specs.declared.Answer.{Answer}
 use Rattle.planning.specs.declared.Fault.{Fault}
 use Rattle.planning.specs.declared.Fault.TheVariants.{Fields, Value, Count, NoEngine, Space}
 use Rattle.planning.specs.declared.Mode.{Mode}
 use Rattle.planning.specs.declared.Mode.TheVariants.{Fixed, Shortest}
 use Rattle.planning.specs.declared.Outcome.TheVariants.{Found, None, Stopped}
+use Rattle.planning.specs.declared.Refusal.{Refusal}
 use Rattle.planning.proofs.Examples.Evaluation.{evaluated}
 use Rattle.planning.specs.Numbers.{Call, call_on, quiet_of, engines_of, deliveries_of, plan_of, within, engine_fault, delivery_fault, quiet_fault, check_quiet, refusal_of}
 use Rattle.planning.specs.Numbers.{answered_by, allocation, unless_refused, table_on_exit, spare_on_exit}
@@ -27,7 +27,7 @@ call mode minutes allowance watts fuels energies limits table spare = quiet_call
 -- a call with what it returns and what is then in the lent lists
 pub record CallExample : Type 0 where
   pub given : Call
-  pub answer : Allocation
+  pub answer : Result Answer Refusal
   pub table : List ℕ
   pub spare : List ℕ
 
@@ -36,7 +36,7 @@ unfoldable pub turned_down : Fault → (place : ℕ) → Call → CallExample
 turned_down fault place given =
     record {
       given = given;
-      answer = Refused (record { fault = fault; place = place });
+      answer = Err (record { fault = fault; place = place });
       table = given.table;
       spare = given.spare;
     }
@@ -52,41 +52,41 @@ calls =
     -- found writes every cell, 0 where nothing is drawn
     record {
       given = call Fixed 60 100 (3000 ∷ 5000 ∷ []) (1000000000 ∷ 1000000000 ∷ []) (5000 ∷ 3000 ∷ []) (2 ∷ 2 ∷ []) 4 2;
-      answer = Answered (record { outcome = Found; minutes = 60; tries = 2 });
+      answer = Ok (record { outcome = Found; minutes = 60; tries = 2 });
       table = 3000 ∷ 2000 ∷ 0 ∷ 3000 ∷ [];
       spare = 0 ∷ 0 ∷ [];
     }
     -- none and stopped write nothing
     ∷ record {
       given = call Fixed 60 100 (3000 ∷ 5000 ∷ []) (1000000000 ∷ 1000000000 ∷ []) (9000 ∷ []) (2 ∷ []) 2 2;
-      answer = Answered (record { outcome = None; minutes = 60; tries = 0 });
+      answer = Ok (record { outcome = None; minutes = 60; tries = 0 });
       table = replicate 2 7;
       spare = replicate 2 8;
     }
     ∷ record {
       given = call Fixed 60 1 (3000 ∷ 5000 ∷ []) (1000000000 ∷ 1000000000 ∷ []) (5000 ∷ 3000 ∷ []) (2 ∷ 2 ∷ []) 4 2;
-      answer = Answered (record { outcome = Stopped; minutes = 60; tries = 1 });
+      answer = Ok (record { outcome = Stopped; minutes = 60; tries = 1 });
       table = replicate 4 7;
       spare = replicate 2 8;
     }
     -- a stop after a found probe writes nothing
     ∷ record {
       given = call Shortest 60 1 (8 ∷ 6 ∷ []) (7 ∷ 5 ∷ []) (3 ∷ 3 ∷ []) (1 ∷ 2 ∷ []) 4 2;
-      answer = Answered (record { outcome = Stopped; minutes = 30; tries = 1 });
+      answer = Ok (record { outcome = Stopped; minutes = 30; tries = 1 });
       table = replicate 4 7;
       spare = replicate 2 8;
     }
     -- no deliveries: a table of length 0
     ∷ record {
       given = call Shortest 60 0 (3000 ∷ []) (1000000000 ∷ []) ([]) ([]) 0 1;
-      answer = Answered (record { outcome = Found; minutes = 1; tries = 0 });
+      answer = Ok (record { outcome = Found; minutes = 1; tries = 0 });
       table = [];
       spare = 50 ∷ [];
     }
     -- "37 are accepted"
     ∷ record {
       given = call Fixed 60 0 (40 ∷ []) (1000 ∷ []) (replicate 37 1) (replicate 37 2) 37 1;
-      answer = Answered (record { outcome = Found; minutes = 60; tries = 0 });
+      answer = Ok (record { outcome = Found; minutes = 60; tries = 0 });
       table = replicate 37 1;
       spare = 3 ∷ [];
     }

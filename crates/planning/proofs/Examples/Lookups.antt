@@ -1,11 +1,10 @@
 -- The spare lookup: its refusals in order, and answers that are permitted or not, by evaluation.
 -- Assumes nothing.
-use Rattle.std.specs.Prelude.{◌≡◌, refl, List, [], ◌∷◌, map, ℕ, replicate}
+use Rattle.std.specs.Prelude.{◌≡◌, refl, List, [], ◌∷◌, map, ℕ, replicate, Ok, Some, None}
 use Rattle.std.proofs.Math.Option.{Option, none, some}
 use Rattle.std.proofs.Common.{arith}
 use Rattle.planning.specs.declared.Fault.{Fault}
 use Rattle.planning.specs.declared.Fault.TheVariants.{Value, Count, NoEngine}
-use Rattle.planning.specs.declared.Lookup.TheVariants.{Engine, Nowhere}
 use Rattle.planning.specs.declared.Refusal.{Refusal}
 use Rattle.planning.specs.Numbers.{within}
 use Rattle.planning.specs.Refusals.{check, ◌then◌}
@@ -46,23 +45,23 @@ unfolding evaluated lookups
 lookups_hold = refl
 
 -- either of two engines that have the amount may be named ..
-pub first-permitted : Permitted (5 ∷ 3 ∷ 7 ∷ []) 4 (Engine 0)
+pub first-permitted : Permitted (5 ∷ 3 ∷ 7 ∷ []) 4 (Ok (Some 0))
 unfolding Permitted PermittedBy Names lookup_refusal check ◌then◌ within
 first-permitted = (omega arith, omega arith)
 
-pub last-permitted : Permitted (5 ∷ 3 ∷ 7 ∷ []) 4 (Engine 2)
+pub last-permitted : Permitted (5 ∷ 3 ∷ 7 ∷ []) 4 (Ok (Some 2))
 unfolding Permitted PermittedBy Names lookup_refusal check ◌then◌ within
 last-permitted = (omega arith, omega arith)
 
 -- .. but none that lacks it, none that is not there, and not "none has it"
-pub smaller_forbidden : Permitted (5 ∷ 3 ∷ 7 ∷ []) 4 (Engine 1) → ⊥
+pub smaller_forbidden : Permitted (5 ∷ 3 ∷ 7 ∷ []) 4 (Ok (Some 1)) → ⊥
 unfolding Permitted PermittedBy Names lookup_refusal check ◌then◌ within
 smaller_forbidden h = omega (arith, h.1)
 
-pub outside_forbidden : Permitted (5 ∷ 3 ∷ 7 ∷ []) 4 (Engine 3) → ⊥
+pub outside_forbidden : Permitted (5 ∷ 3 ∷ 7 ∷ []) 4 (Ok (Some 3)) → ⊥
 unfolding Permitted PermittedBy Names lookup_refusal check ◌then◌ within
 outside_forbidden h = omega (arith, h.0)
 
-pub nowhere_forbidden : Permitted (5 ∷ 3 ∷ 7 ∷ []) 4 Nowhere → ⊥
+pub nowhere_forbidden : Permitted (5 ∷ 3 ∷ 7 ∷ []) 4 (Ok None) → ⊥
 unfolding Permitted PermittedBy Names lookup_refusal check ◌then◌ within
 nowhere_forbidden h = omega (arith, h 0 (omega arith))

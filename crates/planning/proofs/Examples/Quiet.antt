@@ -1,7 +1,6 @@
 -- Quiet hours (document 02, K1) on numbers: calls with spans, what is returned and what the lent table and spare list then hold, by evaluation.
 -- Assumes nothing.
-use Rattle.std.specs.Prelude.{◌≡◌, refl, List, [], ◌∷◌, map, replicate}
-use Rattle.planning.specs.declared.Allocation.TheVariants.{Answered}
+use Rattle.std.specs.Prelude.{◌≡◌, refl, List, [], ◌∷◌, map, replicate, Ok}
 use Rattle.planning.specs.declared.Fault.TheVariants.{Fields, Value, UnknownEngine, QuietSpan}
 use Rattle.planning.specs.declared.Mode.TheVariants.{Fixed, Shortest}
 use Rattle.planning.specs.declared.Outcome.TheVariants.{Found, None}
@@ -13,84 +12,84 @@ quiet-calls =
     -- "FROM included and TO excluded": minutes 0 to 29 are quiet, 30 to 59 run
     record {
       given = quiet_call Fixed 60 100 (60 ∷ []) (1000000000 ∷ []) (30 ∷ []) (1 ∷ []) (1 ∷ 0 ∷ 30 ∷ []) 1 1;
-      answer = Answered (record { outcome = Found; minutes = 60; tries = 1 });
+      answer = Ok (record { outcome = Found; minutes = 60; tries = 1 });
       table = (30 ∷ []);
       spare = (0 ∷ []);
     }
     ∷ record {
       given = quiet_call Fixed 60 100 (60 ∷ []) (1000000000 ∷ []) (31 ∷ []) (1 ∷ []) (1 ∷ 0 ∷ 30 ∷ []) 1 1;
-      answer = Answered (record { outcome = None; minutes = 60; tries = 0 });
+      answer = Ok (record { outcome = None; minutes = 60; tries = 0 });
       table = replicate 1 7;
       spare = replicate 1 8;
     }
     -- the last minute alone
     ∷ record {
       given = quiet_call Fixed 60 100 (60 ∷ []) (1000000000 ∷ []) (59 ∷ []) (1 ∷ []) (1 ∷ 59 ∷ 60 ∷ []) 1 1;
-      answer = Answered (record { outcome = Found; minutes = 60; tries = 1 });
+      answer = Ok (record { outcome = Found; minutes = 60; tries = 1 });
       table = (59 ∷ []);
       spare = (0 ∷ []);
     }
     ∷ record {
       given = quiet_call Fixed 60 100 (60 ∷ []) (1000000000 ∷ []) (60 ∷ []) (1 ∷ []) (1 ∷ 59 ∷ 60 ∷ []) 1 1;
-      answer = Answered (record { outcome = None; minutes = 60; tries = 0 });
+      answer = Ok (record { outcome = None; minutes = 60; tries = 0 });
       table = replicate 1 7;
       spare = replicate 1 8;
     }
     -- only "the minutes before T": a span that begins at T, and one across it
     ∷ record {
       given = quiet_call Fixed 60 100 (60 ∷ []) (1000000000 ∷ []) (60 ∷ []) (1 ∷ []) (1 ∷ 60 ∷ 90 ∷ []) 1 1;
-      answer = Answered (record { outcome = Found; minutes = 60; tries = 1 });
+      answer = Ok (record { outcome = Found; minutes = 60; tries = 1 });
       table = (60 ∷ []);
       spare = (0 ∷ []);
     }
     ∷ record {
       given = quiet_call Fixed 60 100 (60 ∷ []) (1000000000 ∷ []) (50 ∷ []) (1 ∷ []) (1 ∷ 50 ∷ 70 ∷ []) 1 1;
-      answer = Answered (record { outcome = Found; minutes = 60; tries = 1 });
+      answer = Ok (record { outcome = Found; minutes = 60; tries = 1 });
       table = (50 ∷ []);
       spare = (0 ∷ []);
     }
     ∷ record {
       given = quiet_call Fixed 60 100 (60 ∷ []) (1000000000 ∷ []) (51 ∷ []) (1 ∷ []) (1 ∷ 50 ∷ 70 ∷ []) 1 1;
-      answer = Answered (record { outcome = None; minutes = 60; tries = 0 });
+      answer = Ok (record { outcome = None; minutes = 60; tries = 0 });
       table = replicate 1 7;
       spare = replicate 1 8;
     }
     -- "Touching spans are fine."
     ∷ record {
       given = quiet_call Fixed 60 100 (60 ∷ []) (1000000000 ∷ []) (40 ∷ []) (1 ∷ []) (1 ∷ 10 ∷ 20 ∷ 1 ∷ 0 ∷ 10 ∷ []) 1 1;
-      answer = Answered (record { outcome = Found; minutes = 60; tries = 1 });
+      answer = Ok (record { outcome = Found; minutes = 60; tries = 1 });
       table = (40 ∷ []);
       spare = (0 ∷ []);
     }
     -- the smaller of FUEL and what the running minutes give, rounded down once
     ∷ record {
       given = quiet_call Fixed 60 100 (59 ∷ []) (1000000000 ∷ []) (29 ∷ []) (1 ∷ []) (1 ∷ 0 ∷ 30 ∷ []) 1 1;
-      answer = Answered (record { outcome = Found; minutes = 60; tries = 1 });
+      answer = Ok (record { outcome = Found; minutes = 60; tries = 1 });
       table = (29 ∷ []);
       spare = (0 ∷ []);
     }
     ∷ record {
       given = quiet_call Fixed 60 100 (60 ∷ []) (20 ∷ []) (10 ∷ []) (1 ∷ []) (1 ∷ 0 ∷ 30 ∷ []) 1 1;
-      answer = Answered (record { outcome = Found; minutes = 60; tries = 1 });
+      answer = Ok (record { outcome = Found; minutes = 60; tries = 1 });
       table = (10 ∷ []);
       spare = (10 ∷ []);
     }
     -- an engine wholly quiet is closed, and another one's spans are its own
     ∷ record {
       given = quiet_call Fixed 60 100 (60 ∷ 60 ∷ []) (1000000000 ∷ 1000000000 ∷ []) (60 ∷ []) (2 ∷ []) (1 ∷ 0 ∷ 10080 ∷ []) 2 2;
-      answer = Answered (record { outcome = Found; minutes = 60; tries = 0 });
+      answer = Ok (record { outcome = Found; minutes = 60; tries = 0 });
       table = (0 ∷ 60 ∷ []);
       spare = (0 ∷ 0 ∷ []);
     }
     ∷ record {
       given = quiet_call Fixed 60 100 (60 ∷ 60 ∷ []) (1000000000 ∷ 1000000000 ∷ []) (60 ∷ []) (2 ∷ []) (2 ∷ 0 ∷ 10080 ∷ []) 2 2;
-      answer = Answered (record { outcome = Found; minutes = 60; tries = 0 });
+      answer = Ok (record { outcome = Found; minutes = 60; tries = 0 });
       table = (60 ∷ 0 ∷ []);
       spare = (0 ∷ 0 ∷ []);
     }
     ∷ record {
       given = quiet_call Fixed 60 100 (60 ∷ []) (1000000000 ∷ []) (1 ∷ []) (1 ∷ []) (1 ∷ 0 ∷ 20 ∷ 1 ∷ 20 ∷ 60 ∷ []) 1 1;
-      answer = Answered (record { outcome = None; minutes = 60; tries = 0 });
+      answer = Ok (record { outcome = None; minutes = 60; tries = 0 });
       table = replicate 1 7;
       spare = replicate 1 8;
     }
@@ -98,26 +97,26 @@ quiet-calls =
     -- another runs
     ∷ record {
       given = quiet_call Shortest 20 100 (60 ∷ []) (1000000000 ∷ []) (5 ∷ []) (1 ∷ []) (1 ∷ 5 ∷ 10 ∷ []) 1 1;
-      answer = Answered (record { outcome = Found; minutes = 5; tries = 1 });
+      answer = Ok (record { outcome = Found; minutes = 5; tries = 1 });
       table = (5 ∷ []);
       spare = (0 ∷ []);
     }
     ∷ record {
       given = quiet_call Shortest 20 100 (60 ∷ []) (1000000000 ∷ []) (6 ∷ []) (1 ∷ []) (1 ∷ 5 ∷ 10 ∷ []) 1 1;
-      answer = Answered (record { outcome = Found; minutes = 11; tries = 1 });
+      answer = Ok (record { outcome = Found; minutes = 11; tries = 1 });
       table = (6 ∷ []);
       spare = (0 ∷ []);
     }
     ∷ record {
       given = quiet_call Shortest 20 100 (60 ∷ 60 ∷ []) (1000000000 ∷ 1000000000 ∷ []) (3 ∷ []) (2 ∷ []) (1 ∷ 0 ∷ 10 ∷ []) 2 2;
-      answer = Answered (record { outcome = Found; minutes = 3; tries = 0 });
+      answer = Ok (record { outcome = Found; minutes = 3; tries = 0 });
       table = (0 ∷ 3 ∷ []);
       spare = (0 ∷ 0 ∷ []);
     }
     -- "at most eight spans an engine": eight of one, and one of the other
     ∷ record {
       given = quiet_call Fixed 60 100 (60 ∷ 60 ∷ []) (1000000000 ∷ 1000000000 ∷ []) (1 ∷ []) (1 ∷ []) (1 ∷ 0 ∷ 1 ∷ 1 ∷ 2 ∷ 3 ∷ 1 ∷ 4 ∷ 5 ∷ 1 ∷ 6 ∷ 7 ∷ 1 ∷ 8 ∷ 9 ∷ 1 ∷ 10 ∷ 11 ∷ 1 ∷ 12 ∷ 13 ∷ 1 ∷ 14 ∷ 15 ∷ 2 ∷ 0 ∷ 1 ∷ []) 2 2;
-      answer = Answered (record { outcome = Found; minutes = 60; tries = 1 });
+      answer = Ok (record { outcome = Found; minutes = 60; tries = 1 });
       table = (1 ∷ 0 ∷ []);
       spare = (51 ∷ 59 ∷ []);
     }

@@ -1,6 +1,6 @@
 -- A plan by value: its lists by their columns, its ranges place by place, and that an accepted call's numbers by value stand for its plan.
 -- Assumes nothing.
-use Rattle.std.specs.Prelude.{◌≡◌, refl, ℕ, ◌≤◌, ◌<◌, length, take}
+use Rattle.std.specs.Prelude.{◌≡◌, refl, ℕ, ◌≤◌, ◌<◌, max, length, take, get_or}
 use Rattle.std.proofs.Math.Path.{ap₂}
 use Rattle.std.proofs.Common.{ap, ◌∙◌, arith}
 use mathlib.Core.List.{List, [], ◌∷◌, map}
@@ -8,19 +8,20 @@ use Rattle.std.proofs.lemmas.List.{length-map}
 use Rattle.planning.specs.declared.Deliveries.{Deliveries}
 use Rattle.planning.specs.declared.Engines.{Engines}
 use Rattle.planning.specs.declared.Plan.{Plan as ByValue}
+use Rattle.planning.specs.declared.QuietSpan.{QuietSpan}
 use Rattle.planning.specs.declared.Spans.{Spans}
 use Rattle.planning.specs.Bounds.{most_engines, most_deliveries, most_quiet, most_fuel}
 use Rattle.planning.specs.ByValue.{quiet_at, quiet_in, engine_in, delivery_in, engines_in, deliveries_in, plan_in}
-use Rattle.planning.specs.ByValue.{UsableSpans, UsableEngines, UsableDeliveries, Usable, spans_by, by_value}
+use Rattle.planning.specs.ByValue.{UsableSpans, UsableEngines, UsableDeliveries, Usable, no_span, no_figures, span_by, spans_by, figures_of, figures_by, by_value}
 use Rattle.planning.specs.Capacity.{capacity, each_capacity}
 use Rattle.planning.proofs.Laws.Numbers.{QuietKept, kept-each, engine-count, engines-quiet, delivery-count}
-use Rattle.planning.proofs.Laws.Padded.{length-padded, at-padded}
+use Rattle.planning.proofs.Laws.Padded.{length-filled, at-filled, length-padded, at-padded}
 use Rattle.planning.proofs.Laws.Quiet.{span-ranges, few-spans}
-use Rattle.planning.proofs.Laws.Tables.{length-listed, at_listed, listed_same, listed-each, listed-take, listed-pairs, map-listed}
+use Rattle.planning.proofs.Laws.Tables.{length-listed, listed_at, at_listed, listed_same, listed-each, listed-take, listed-pairs, map-listed}
 use Rattle.planning.specs.Numbers.{Call, Accepted, quiet_of, engines_of, deliveries_of, plan_of}
 use Rattle.planning.specs.Plan.{Engine, Delivery, All, Within, SpanInRange, EngineInRange, DeliveryInRange, energies, limits}
 use Rattle.planning.specs.Quiet.{Quiet}
-use Rattle.planning.specs.Tables.{at, listed, padded}
+use Rattle.planning.specs.Tables.{at, listed, filled, padded}
 
 -- ---- engines
 
@@ -87,14 +88,12 @@ module _ {p : ByValue} (u : Usable p) where
 
 -- ---- quiet spans
 
--- each at its place of the columns that they make up
-quiet-listed : (quiet : List Quiet)
-    → listed (length quiet)
-    (λ k. record {
-      engine = at (map (λ (q : Quiet). q.engine) quiet) k;
-      span = record { from = at (map (λ (q : Quiet). q.span.from) quiet) k; to = at (map (λ (q : Quiet). q.span.to) quiet) k };
-    })
-    ≡ quiet
+-- the span that is stored stands for itself
+abbrev stands : QuietSpan → Quiet
+stands s = record { engine = s.engine; span = record { from = s.from; to = s.to } }
+
+-- each at its place among those that are stored
+quiet-listed : (quiet : List Quiet) → listed (length quiet) (λ k. stands (get_or (map span_by quiet) k no_span)) ≡ quiet
 unfolding listed
 quiet-listed [] = refl
 quiet-listed (q ∷ quiet) = ap (λ (others : List Quiet). q ∷ others) (quiet-listed quiet)
@@ -102,13 +101,7 @@ quiet-listed (q ∷ quiet) = ap (λ (others : List Quiet). q ∷ others) (quiet-
 pub quiet-by-value : (quiet : List Quiet) → quiet_in (spans_by quiet) ≡ quiet
 unfolding quiet_in quiet_at spans_by
 quiet-by-value quiet =
-    listed_same (length quiet) _ _
-    (λ k l. rw (
-      at-padded most_quiet (map (λ (q : Quiet). q.engine) quiet) k,
-      at-padded most_quiet (map (λ (q : Quiet). q.span.from) quiet) k,
-      at-padded most_quiet (map (λ (q : Quiet). q.span.to) quiet) k,
-    ))
-    ∙ quiet-listed quiet
+    listed_same (length quiet) _ _ (λ k l. ap stands (at-filled no_span most_quiet (map span_by quiet) k)) ∙ quiet-listed quiet
 
 -- what is kept by all holds of the one at each place
 module _ (engines : ℕ) (q : Spans) (kept : QuietKept engines (quiet_in q)) where
@@ -128,13 +121,15 @@ spans-usable engines quiet few known =
     record {
       count = few;
       known = rw (quiet-by-value quiet) known;
-      engine = long (λ (q : Quiet). q.engine);
-      from = long (λ (q : Quiet). q.span.from);
-      to = long (λ (q : Quiet). q.span.to);
+      spans = length-filled no_span most_quiet (map span_by quiet) (omega (arith, length-map quiet span_by));
     }
-  where
-    long : (number : Quiet → ℕ) → length (padded most_quiet (map number quiet)) ≡ most_quiet
-    long number = length-padded most_quiet (map number quiet) (omega (arith, length-map quiet number))
+
+-- an engine's figures stand at its place
+pub figures-by-value : (watts fuels : List ℕ) (i : ℕ) → i < length watts
+    → get_or (filled no_figures most_engines (figures_by watts fuels)) i no_figures ≡ figures_of watts fuels i
+figures-by-value watts fuels i l =
+    at-filled no_figures most_engines (figures_by watts fuels) i
+    ∙ listed_at (max (length watts) (length fuels)) i (figures_of watts fuels) no_figures (omega arith)
 
 -- ---- the numbers of an accepted call
 
@@ -143,7 +138,7 @@ module _ (call : Call) (ok : Accepted call) where
   unfolding by_value engines_in engine_in engines_of
   engines-by-value =
       listed_same (length call.watts) _ _
-      (λ i l. rw (at-padded most_engines call.watts i, at-padded most_engines call.fuels i, quiet-by-value (quiet_of call.quiet)))
+      (λ i l. rw (figures-by-value call.watts call.fuels i l, quiet-by-value (quiet_of call.quiet)) refl)
 
   deliveries-by-value : deliveries_in (by_value call).deliveries ≡ deliveries_of call.energies call.limits
   unfolding by_value deliveries_in delivery_in deliveries_of
@@ -185,8 +180,9 @@ module _ (call : Call) (ok : Accepted call) where
             record {
               count = rw (engine-count call.watts call.fuels (quiet_of call.quiet)) at ok.in_range.engine_count;
               ranges = rw engines-by-value ok.in_range.engines;
-              watts = length-padded most_engines call.watts few-engines;
-              fuel = length-padded most_engines call.fuels (omega (arith, few-engines, ok.engine_lists));
+              figures =
+                  length-filled no_figures most_engines (figures_by call.watts call.fuels)
+                  (omega (arith, few-engines, ok.engine_lists, length-listed (max (length call.watts) (length call.fuels)) (figures_of call.watts call.fuels)));
               quiet = spans-usable (length call.watts) (quiet_of call.quiet) few-quiet ok.quiet_engines;
             };
         deliveries =

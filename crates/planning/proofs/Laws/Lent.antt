@@ -1,11 +1,10 @@
 -- What the lent table and spare list hold after an answer: found leaves a table that serves, whatever was lent; none and stopped
 -- leave what was lent. A refused call leaves it too.
 -- Assumes nothing.
-use Rattle.std.specs.Prelude.{◌≡◌, refl, ◌≢◌, List, ℕ, ◌*◌, ◌<◌, length, drop}
+use Rattle.std.specs.Prelude.{◌≡◌, refl, ◌≢◌, List, ℕ, ◌*◌, ◌<◌, length, drop, Err}
 use Rattle.std.proofs.Common.{ap, ◌∙◌, arith}
 use Rattle.std.proofs.Math.Option.{some}
 use Rattle.std.proofs.Math.ListN.{get_or-append}
-use Rattle.planning.specs.declared.Allocation.TheVariants.{Refused}
 use Rattle.planning.specs.declared.Outcome.TheVariants.{Found}
 use Rattle.planning.specs.declared.Refusal.{Refusal}
 use Rattle.planning.specs.Cutting.{Fits, Serves}
@@ -62,7 +61,7 @@ kept-unless-found plan table spare = go (planned plan).result
 
 -- A refused call returns its refusal and leaves what was lent.
 pub refused-keeps : (call : Call) (refusal : Refusal) → refusal_of call ≡ some refusal
-    → (allocation call ≡ Refused refusal) × (table_on_exit call ≡ call.table) × (spare_on_exit call ≡ call.spare)
+    → (allocation call ≡ Err refusal) × (table_on_exit call ≡ call.table) × (spare_on_exit call ≡ call.spare)
 unfolding allocation answered_by table_on_exit spare_on_exit unless_refused
 refused-keeps call refusal e =
     (ap (answered_by call) e, rw e, rw e)

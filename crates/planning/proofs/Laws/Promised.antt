@@ -1,12 +1,10 @@
 -- What the definitions return and leave of a call on numbers keeps every promise of the contract.
 -- Assumes nothing.
 use Rattle.std.proofs.Math.Path.{◌≡◌, ap}
-use Rattle.std.specs.Prelude.{refl, ◌≢◌, Bool, ℕ, ◌+◌, ◌≤◌, ◌<◌, length}
+use Rattle.std.specs.Prelude.{refl, ◌≢◌, Bool, ℕ, ◌+◌, ◌≤◌, ◌<◌, length, Result, Ok, Err}
 use Rattle.std.proofs.Common.{sym, ◌∙◌, arith}
 use mathlib.Core.List.{List, [], ◌∷◌, ◌++◌, zip_with}
 use Rattle.std.proofs.Math.Option.{Option, none as unrefused, some}
-use Rattle.planning.specs.declared.Allocation.{Allocation}
-use Rattle.planning.specs.declared.Allocation.TheVariants.{Answered, Refused}
 use Rattle.planning.specs.declared.Answer.{Answer}
 use Rattle.planning.specs.declared.Fault.{Fault}
 use Rattle.planning.specs.declared.Fault.TheVariants.{Fields, NoEngine, Count, Space, Value, UnknownEngine, QuietSpan}
@@ -25,7 +23,7 @@ use Rattle.planning.specs.Plan.{Engine, Delivery}
 use Rattle.planning.specs.Promises.{FaultOnNumbers, records_of, Promised}
 use Rattle.planning.specs.Quiet.{Quiet}
 use Rattle.planning.specs.Refusals.{check}
-use Rattle.planning.specs.Search.{Result, found, none, stopped}
+use Rattle.planning.specs.Search.{Result as Came, found, none, stopped}
 use Rattle.planning.specs.Sum.{sum}
 use Rattle.planning.specs.Tables.{piece_in, at}
 
@@ -96,13 +94,13 @@ refusal_on_numbers call =
 
 -- ---- the result taken apart
 
-answered-by : (call : Call) (o : Option Refusal) {a : Answer} → answered_by call o ≡ Answered a
+answered-by : (call : Call) (o : Option Refusal) {a : Answer} → answered_by call o ≡ Ok a
     → (o ≡ unrefused) × (answer_of (planned (plan_of call)) ≡ a)
 unfolding answered_by
 answered-by call unrefused e = (refl, cc)
 answered-by call (some refusal) e = let z : ◌≡◌ {A = ℕ} 0 1 = cc in absurd (omega arith)
 
-refused-by : (call : Call) (o : Option Refusal) {refusal : Refusal} → answered_by call o ≡ Refused refusal → o ≡ some refusal
+refused-by : (call : Call) (o : Option Refusal) {refusal : Refusal} → answered_by call o ≡ Err refusal → o ≡ some refusal
 unfolding answered_by
 refused-by call unrefused e = cc
 refused-by call (some refusal) e = cc
@@ -120,7 +118,7 @@ found-cells call ok = go (planned (plan_of call)).result refl
     T : ℕ
     T = (planned (plan_of call)).minutes
 
-    go : (r : Result) → (planned (plan_of call)).result ≡ r → outcome_of r ≡ Found
+    go : (r : Came) → (planned (plan_of call)).result ≡ r → outcome_of r ≡ Found
         → Serves 1 (plan_of call) T (piece_in (length call.watts) (table_on_exit call))
         × ((i : ℕ) → i < length call.watts
         → at (spare_on_exit call) i + sum (length call.energies) (λ p. piece_in (length call.watts) (table_on_exit call) p i)
@@ -133,21 +131,21 @@ found-cells call ok = go (planned (plan_of call)).result refl
 
 -- ---- the promises
 
-module _ (call : Call) {r : Allocation} {table spare : List ℕ} (result : r ≡ allocation call) (table_is : table ≡ table_on_exit call)
+module _ (call : Call) {r : Result Answer Refusal} {table spare : List ℕ} (result : r ≡ allocation call) (table_is : table ≡ table_on_exit call)
     (spare-is : spare ≡ spare_on_exit call) where
-  accepted : {a : Answer} → r ≡ Answered a → Accepted call
+  accepted : {a : Answer} → r ≡ Ok a → Accepted call
   unfolding allocation
   accepted e = (unrefused-iff call).0 (answered-by call (refusal_of call) (sym result ∙ e)).0
 
-  answer : {a : Answer} → r ≡ Answered a → answer_of (planned (plan_of call)) ≡ a
+  answer : {a : Answer} → r ≡ Ok a → answer_of (planned (plan_of call)) ≡ a
   unfolding allocation
   answer e = (answered-by call (refusal_of call) (sym result ∙ e)).1
 
-  outcome : {a : Answer} → r ≡ Answered a → outcome_of (planned (plan_of call)).result ≡ a.outcome
+  outcome : {a : Answer} → r ≡ Ok a → outcome_of (planned (plan_of call)).result ≡ a.outcome
   unfolding answer_of
   outcome e = ap (λ (b : Answer). b.outcome) (answer e)
 
-  refused : {refusal : Refusal} → r ≡ Refused refusal → refusal_of call ≡ some refusal
+  refused : {refusal : Refusal} → r ≡ Err refusal → refusal_of call ≡ some refusal
   unfolding allocation
   refused e = refused-by call (refusal_of call) (sym result ∙ e)
 

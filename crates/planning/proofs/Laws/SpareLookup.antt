@@ -1,14 +1,13 @@
 -- The spare lookup: every list and amount has a permitted answer, and a permitted answer keeps every promise.
 -- Assumes nothing.
 use Rattle.std.proofs.Math.Path.{◌≡◌}
-use Rattle.std.specs.Prelude.{refl, ◌⊎◌, List, ℕ, zero, suc, ◌≤◌, ◌<◌, length}
+use Rattle.std.specs.Prelude.{refl, ◌⊎◌, List, ℕ, zero, suc, ◌≤◌, ◌<◌, length, Ok, Err, Some, None}
 use Rattle.std.proofs.Common.{inl, inr, arith}
 use Rattle.std.proofs.Math.Option.{Option, none, some}
 use Rattle.planning.specs.declared.Fault.TheVariants.{Value, Count, NoEngine}
-use Rattle.planning.specs.declared.Lookup.{Lookup}
-use Rattle.planning.specs.declared.Lookup.TheVariants.{Engine, Nowhere, Refused}
 use Rattle.planning.specs.declared.Refusal.{Refusal}
 use Rattle.planning.proofs.Laws.Finite.Decisions.{le-or-lt, below_next}
+use Rattle.planning.specs.Lookup.{Lookup}
 use Rattle.planning.specs.Tables.{at}
 use Rattle.planning.proofs.Laws.Refusals.{Only, only-check, only_then}
 use Rattle.planning.specs.SpareLookup.{lookup_refusal, Names, PermittedBy, Permitted, FaultInLookup, LookedUp}
@@ -32,13 +31,13 @@ some-answer-permitted spare amount = go (lookup_refusal spare amount) (some_or_n
   where
     go : (r : Option Refusal) → ((i : ℕ) × (i < length spare) × (amount ≤ at spare i)) ⊎ ((i : ℕ) → i < length spare → at spare i < amount)
         → (answer : Lookup) × PermittedBy r spare amount answer
-    go (some refusal) h = (Refused refusal, refl)
-    go none (inl h) = (Engine h.0, (h.1, h.2))
-    go none (inr h) = (Nowhere, h)
+    go (some refusal) h = (Err refusal, refl)
+    go none (inl h) = (Ok (Some h.0), (h.1, h.2))
+    go none (inr h) = (Ok None, h)
 
 -- A refusal permits itself alone, and where there is none an answer is permitted that names rightly.
 pub refused-permitted : (spare : List ℕ) (amount : ℕ) {refusal : Refusal} {r : Lookup} → lookup_refusal spare amount ≡ some refusal
-    → r ≡ Refused refusal → Permitted spare amount r
+    → r ≡ Err refusal → Permitted spare amount r
 unfolding Permitted PermittedBy
 refused-permitted spare amount e h = rw e h
 
@@ -64,14 +63,14 @@ looked-up spare amount {r} permitted =
       turned_down = λ refusal e. lookup_faults spare amount refusal (refused (lookup_refusal spare amount) refusal (rw e at permitted));
     }
   where
-    named : (o : Option Refusal) (i : ℕ) → PermittedBy o spare amount (Engine i) → (i < length spare) × (amount ≤ at spare i)
+    named : (o : Option Refusal) (i : ℕ) → PermittedBy o spare amount (Ok (Some i)) → (i < length spare) × (amount ≤ at spare i)
     named none i p = unfold PermittedBy Names in p
     named (some refusal) i p = unfold PermittedBy in (let z : ◌≡◌ {A = ℕ} 0 1 = cc in absurd (omega arith))
 
-    nowhere : (o : Option Refusal) → PermittedBy o spare amount Nowhere → (i : ℕ) → i < length spare → at spare i < amount
+    nowhere : (o : Option Refusal) → PermittedBy o spare amount (Ok None) → (i : ℕ) → i < length spare → at spare i < amount
     nowhere none p = unfold PermittedBy Names in p
     nowhere (some refusal) p = unfold PermittedBy in (let z : ◌≡◌ {A = ℕ} 0 1 = cc in absurd (omega arith))
 
-    refused : (o : Option Refusal) (refusal : Refusal) → PermittedBy o spare amount (Refused refusal) → o ≡ some refusal
+    refused : (o : Option Refusal) (refusal : Refusal) → PermittedBy o spare amount (Err refusal) → o ≡ some refusal
     refused none refusal p = unfold PermittedBy Names in absurd p
     refused (some other) refusal p = unfold PermittedBy in cc

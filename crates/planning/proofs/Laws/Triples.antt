@@ -2,10 +2,12 @@
 -- Assumes nothing.
 use Rattle.std.specs.Prelude.{◌≡◌, Bool, ◌&&◌, List, [], ◌∷◌, ◌++◌, ℕ, zero, suc, ◌+◌, ◌*◌, ◌/◌, ◌%◌, ◌≤◌, ◌<◌, take, drop}
 use Rattle.std.proofs.Math.Path.{refl}
-use Rattle.std.proofs.Common.{ap, ◌∙◌, suc-add, arith}
+use Rattle.std.proofs.Common.{ap, sym, subst, ◌∙◌, suc-add, arith}
 use Rattle.std.proofs.Math.Bool.{true, false}
 use Rattle.std.proofs.Math.Dec.{ltb}
-use Rattle.std.proofs.Math.ListN.{length}
+use Rattle.std.proofs.Math.ListN.{length, get_or}
+use Rattle.std.proofs.lemmas.List.{get_or-drop, get_or-take}
+use Rattle.std.specs.Simd.{first_chunks}
 use borrow.Author.Tests.{lt-ltb, le-ltb, eq-eqb, ne_eqb}
 use Rattle.planning.specs.Bounds.{most_spans}
 use Rattle.planning.specs.Numbers.{quiet_of, triples_of}
@@ -75,6 +77,13 @@ quiet-count (a ∷ []) = omega arith
 quiet-count (a ∷ b ∷ []) = omega arith
 quiet-count (a ∷ b ∷ c ∷ xs) = omega (arith, quiet-count xs)
 
+-- the numbers of the k-th of n threes stand one behind the other
+pub three_at : (xs : List ℕ) (n k j : ℕ) → k < n → j < 3 → at (get_or (first_chunks 3 n xs) k []) j ≡ at xs (3 * k + j)
+three_at xs zero k j l h = absurd (omega arith)
+three_at xs (suc n) zero j l h = get_or-take 3 xs j 0 h ∙ ap (λ (i : ℕ). at xs i) (omega arith)
+three_at xs (suc n) (suc k) j l h =
+    three_at (drop 3 xs) n k j (omega arith) h ∙ get_or-drop 3 xs (3 * k + j) 0 ∙ ap (λ (i : ℕ). at xs i) (omega arith)
+
 -- ---- whether a span fits, span by span
 
 -- no span of that engine in front of place i overlaps it, and so many stand there
@@ -134,3 +143,37 @@ module _ (engine : ℕ) (s : Span) (xs : List ℕ) where
 pub fits-empty : (s : Span) (earlier : List Span) → s.to ≤ s.from → fits s earlier ≡ false
 unfolding fits
 fits-empty s earlier l = rw (le-ltb s.from s.to l)
+
+-- ---- the same over the threes of a list
+
+spans-same : {from from' to to' : ℕ} → from ≡ from' → to ≡ to' → ◌≡◌ {A = Span} (record { from = from; to = to }) (record { from = from'; to = to' })
+spans-same e f = rw (e, f)
+
+-- `threes` are those of the list, as the code walks over them, and one of them stands at place k
+module _ (engine : ℕ) (s : Span) (xs : List ℕ) {threes : List (List ℕ)} (are : threes ≡ first_chunks 3 (length xs / 3) xs) (k : ℕ)
+    (inside : k < length xs / 3) where
+  number : (j : ℕ) → j < 3 → at xs (3 * k + j) ≡ get_or (get_or threes k []) j 0
+  number j h = sym (ap (λ (ys : List (List ℕ)). get_or (get_or ys k []) j 0) are ∙ three_at xs (length xs / 3) k j inside h)
+
+  first : at xs (3 * k) ≡ get_or (get_or threes k []) 0 0
+  first = ap (λ (i : ℕ). at xs i) (omega arith) ∙ number 0 (omega arith)
+
+  this : clear s (record { from = get_or (get_or threes k []) 1 0; to = get_or (get_or threes k []) 2 0 }) ≡ clear s (span_at xs (3 * k))
+  this = ap (λ (o : Span). clear s o) (spans-same (sym (number 1 (omega arith))) (sym (number 2 (omega arith))))
+
+  more : {earlier : ℕ} → FitsSoFar engine s xs (3 * k + 3) earlier → FitsSoFar engine s xs (3 * (k + 1)) earlier
+  more {earlier} f = subst (λ (i : ℕ). FitsSoFar engine s xs i earlier) (omega arith) f
+
+  module _ {earlier : ℕ} (f : FitsSoFar engine s xs (3 * k) earlier) where
+    pub three_other : (get_or (get_or threes k []) 0 0 ≡ engine → ⊥) → FitsSoFar engine s xs (3 * (k + 1)) earlier
+    three_other n = more (fits-other engine s xs f (omega arith) (λ e. n (sym first ∙ e)))
+
+    pub three_clear : get_or (get_or threes k []) 0 0 ≡ engine
+        → clear s (record { from = get_or (get_or threes k []) 1 0; to = get_or (get_or threes k []) 2 0 }) ≡ true
+        → FitsSoFar engine s xs (3 * (k + 1)) (earlier + 1)
+    three_clear e c = more (fits-clear engine s xs f (omega arith) (first ∙ e) (sym this ∙ c))
+
+    pub three_overlap : get_or (get_or threes k []) 0 0 ≡ engine
+        → clear s (record { from = get_or (get_or threes k []) 1 0; to = get_or (get_or threes k []) 2 0 }) ≡ false
+        → fits s (spans_of engine (quiet_of xs)) ≡ false
+    three_overlap e c = fits_overlap engine s xs f (omega arith) (first ∙ e) (sym this ∙ c)

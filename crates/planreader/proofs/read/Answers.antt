@@ -1,32 +1,29 @@
--- `read` meets its contract: the beginning, then the other records into columns.
+-- `read` meets its contract: the beginning, then the other records into an empty plan.
 use Rattle.std.proofs.Common.{sym, ap, ◌∙◌}
-use Rattle.planning.specs.Bounds.{most_engines, most_deliveries}
-use Rattle.planreader.specs.Columns.{reading_of}
-use Rattle.planreader.specs.Laws.Columns.{filled-nothing}
-use Rattle.planreader.specs.Laws.FileRead.{counted-refused, counted_items}
-use Rattle.planreader.specs.Laws.Quiet.{spans-nothing}
+use Rattle.std.proofs.lemmas.Result.{err_from_is_err_and}
+use Rattle.planning.specs.Numbers.{triples_of}
+use Rattle.planning.specs.Tables.{padded}
+use Rattle.planreader.specs.Columns.{by_value, reading_of}
+use Rattle.planreader.specs.Laws.Pending.{records-refused-by, records-read-by}
 use Rattle.planreader.specs.Opening.{BeginsBy}
-use Rattle.planreader.specs.Records.{ItemsRead}
 use Rattle.planreader.proofs.read.Goals as goal
 
-pub returns-in-Refused : goal.returns-in-Refused
+pub returns-in_err-opening : goal.returns-in_err-opening
+unfolding BeginsBy reading_of
+returns-in_err-opening c =
+    let (refusal, is, same) = err_from_is_err_and c.from_residual.result c.from_residual.ensures.1 in
+    rw (is, same) (ap reading_of (sym c.in_err-opening.ensures))
+
+pub read-requires : goal.read-requires
+unfolding BeginsBy by_value padded triples_of
+read-requires c = (c.in_ok-opening.ensures.0, rw (c.none.ensures, c.none-2.ensures))
+
+pub returns-in_err-read : goal.returns-in_err-read
+unfolding BeginsBy reading_of
+returns-in_err-read c =
+    let (refusal, is, same) = err_from_is_err_and c.from_residual-in_err-read.result c.from_residual-in_err-read.ensures.1 in
+    rw (is, same) (ap reading_of (sym (c.in_ok-opening.ensures.1 ∙ records-refused-by _ _ _ c.in_err-read.ensures)))
+
+pub returns : goal.returns
 unfolding BeginsBy
-returns-in-Refused c = c.refused.ensures ∙ ap reading_of (sym c.in-Refused.ensures)
-
-pub read-counted-requires : goal.read-counted-requires
-unfolding BeginsBy
-read-counted-requires c = (c.in-Plan.ensures.0, filled-nothing most_engines, spans-nothing, filled-nothing most_deliveries)
-
-pub returns-in-Refused-counted : goal.returns-in-Refused-counted
-unfolding BeginsBy ItemsRead
-returns-in-Refused-counted c =
-    c.refused-in-Refused-counted.ensures
-    ∙ ap reading_of
-    (sym (c.in-Plan.ensures.1
-    ∙ counted-refused _ _ _ _ _ _ _ _ (c.in-Refused-counted.ensures c.in-Plan.mode c.in-Plan.minutes c.in-Plan.allowance)))
-
-pub returns-in-Items : goal.returns-in-Items
-unfolding BeginsBy ItemsRead
-returns-in-Items c =
-    counted_items _ _ _ _ _ _ _ _ _ _ (c.in-Items.ensures c.in-Plan.mode c.in-Plan.minutes c.in-Plan.allowance)
-    ∙ ap reading_of (sym c.in-Plan.ensures.1)
+returns c = records-read-by _ _ c.in_ok-read.ensures ∙ ap reading_of (sym c.in_ok-opening.ensures.1)

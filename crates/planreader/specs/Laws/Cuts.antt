@@ -1,6 +1,6 @@
 -- A record of a file cut into its fields, one field after the other: what is known when some of them are passed. Assumes nothing.
-use Rattle.std.specs.Prelude.{◌≡◌, refl, ◌⊎◌, ℕ, ◌+◌, ◌-◌, ◌≤◌, ◌<◌, min, Bool, true, false, cond, List, [], ◌∷◌, ◌++◌, length, take, drop, get_or, set}
-use Rattle.std.proofs.Common.{sym, ap, ◌∙◌, inl, inr, arith, true≢false, append-nil, append_assoc, length-append, length-set, get_or-set_same, get_or-set_other, take_at, drop_at}
+use Rattle.std.specs.Prelude.{◌≡◌, refl, ◌⊎◌, ℕ, ◌+◌, ◌-◌, ◌≤◌, ◌<◌, min, Bool, true, false, cond, None, Some, List, [], ◌∷◌, ◌++◌, length, take, drop, get_or, set, replicate}
+use Rattle.std.proofs.Common.{sym, ap, ◌∙◌, inl, inr, arith, append_assoc, length-append, length-set, get_or-set_same, get_or-set_other, take_at, drop_at}
 use Rattle.std.proofs.Math.Option.{Option, none, some, none-ne-some, some_inj}
 use Rattle.std.proofs.Math.ListN.{get_or-append}
 use Rattle.std.proofs.Math.Seq.{append_snoc}
@@ -13,8 +13,8 @@ use Rattle.csv_fields.specs.Spans.{record_span, field_read, holds_quote}
 use Rattle.csv_fields.specs.Laws.RecordSpans.{record_stands}
 use Rattle.csv_fields.specs.Laws.FieldReads.{ReadAt, broken_record, field_told}
 use Rattle.planning.proofs.Laws.Finite.Decisions.{le-or-lt}
-use Rattle.planning.specs.Tables.{at}
-use Rattle.planreader.specs.declared.entry.Fields.{Fields}
+use Rattle.planreader.specs.declared.entry.FieldPlace.{FieldPlace}
+use Rattle.planreader.specs.Fields.{nowhere, Place, Places, IsCut}
 use Rattle.planreader.specs.Parts.{CutAt}
 
 -- ---- the values of some fields and of one more
@@ -48,52 +48,27 @@ left-broken (first ∷ fields) others e = rw (left-broken fields others e) (go (
 
 -- ---- the places of the first four fields
 
--- a field stands between two places of the text, and holds a doubled quote or not
-pub record Place (text : List ℕ) (from to : ℕ) (doubled : Bool) (field : List ℕ) : Type 0 where
-  pub begins : from ≤ to
-  pub ends : to ≤ length text
-  pub stands : take (to - from) (drop from text) ≡ field
-  pub quotes : {value : List ℕ} → field_value field ≡ some value → doubled ≡ holds_quote value
-
-abbrev Places : (text start end : List ℕ) → (doubled : List Bool) → (count : ℕ) → (fields : List (List ℕ)) → Type 0
-Places text start end doubled count fields = (j : ℕ) → j < count → j < 4 → Place text (at start j) (at end j) (get_or doubled j false) (get_or fields j [])
-
-module _ (text start end : List ℕ) (doubled : List Bool) (count : ℕ) (fields : List (List ℕ)) (field : List ℕ)
-    (places : Places text start end doubled count fields) where
+module _ (text : List ℕ) (places : List FieldPlace) (count : ℕ) (fields : List (List ℕ)) (field : List ℕ) (stand : Places text places count fields) where
   -- one more of them is stored
-  place_stored : (from to : ℕ) (d : Bool) → count < 4 → length start ≡ 4 → length end ≡ 4 → length doubled ≡ 4 → count ≡ length fields
-      → Place text from to d field → Places text (set start count from) (set end count to) (set doubled count d) (count + 1) (fields ++ field ∷ [])
-  place_stored from to d room starts ends doubles counts place j l m = go (le-or-lt count j)
+  place_stored : (place : FieldPlace) → count < 4 → length places ≡ 4 → count ≡ length fields → Place text place field
+      → Places text (set places count place) (count + 1) (fields ++ field ∷ [])
+  place_stored place room whole counts here j l m = go (le-or-lt count j)
     where
-      go : (count ≤ j) ⊎ (j < count)
-          → Place text (at (set start count from) j) (at (set end count to) j) (get_or (set doubled count d) j false) (get_or (fields ++ field ∷ []) j [])
+      go : (count ≤ j) ⊎ (j < count) → Place text (get_or (set places count place) j nowhere) (get_or (fields ++ field ∷ []) j [])
       go (inl k) =
-          let here : j ≡ count = omega arith in
-          rw (
-            here,
-            get_or-set_same start count from 0 (omega arith),
-            get_or-set_same end count to 0 (omega arith),
-            get_or-set_same doubled count d false (omega arith),
-            get_or_at fields field [] [] count (sym counts),
-          )
-          place
+          let last : j ≡ count = omega arith in
+          rw (last, get_or-set_same places count place nowhere (omega arith), get_or_at fields field [] [] count (sym counts)) here
       go (inr k) =
           let other : j ≡ count → ⊥ = λ e. omega arith in
-          rw (
-            get_or-set_other start count j from 0 other,
-            get_or-set_other end count j to 0 other,
-            get_or-set_other doubled count j d false other,
-            get_or-append fields (field ∷ []) [] j (omega arith),
-          )
-          (places j k m)
+          rw (get_or-set_other places count j place nowhere other, get_or-append fields (field ∷ []) [] j (omega arith)) (stand j k m)
 
   -- or they are all stored
-  places_same : (n : ℕ) → 4 ≤ count → count ≤ length fields → Places text start end doubled n (fields ++ field ∷ [])
-  places_same n all counts j l m = rw (get_or-append fields (field ∷ []) [] j (omega arith)) (places j (omega arith) m)
+  places_same : (n : ℕ) → 4 ≤ count → count ≤ length fields → Places text places n (fields ++ field ∷ [])
+  places_same n all counts j l m = rw (get_or-append fields (field ∷ []) [] j (omega arith)) (stand j (omega arith) m)
 
 -- a field behind some bytes of the text
 place-behind : (text done raw tail value : List ℕ) (d : Bool) → text ≡ done ++ (raw ++ tail) → field_value raw ≡ some value → d ≡ holds_quote value
-    → Place text (length done) (length done + length raw) d raw
+    → Place text (record { start = length done; end = length done + length raw; doubled = d }) raw
 place-behind text done raw tail value d e reads quotes =
     let n : length done + length raw - length done ≡ length raw = omega arith in
     record {
@@ -105,194 +80,157 @@ place-behind text done raw tail value d e reads quotes =
 
 -- ---- the record
 
--- some fields of the record that begins at a place are passed: with those from another place on, where there are more, they are all
-pub record Passed (file : List ℕ) (from : ℕ) (start end : List ℕ) (doubled : List Bool) (count at stop : ℕ) (more : Bool) : Type 0 where
+-- some fields of the record that begins at a place are passed: with those from another place on they are all
+pub record Passed (file : List ℕ) (from : ℕ) (count : ℕ) (places : List FieldPlace) (at : ℕ) : Type 0 where
   pub fields : List (List ℕ)
-  pub whole : raw_fields (first_record (drop from file)).text ≡ fields ++ cond more (raw_fields (first_record (drop at file)).text) []
-  pub counts : count ≡ min 5 (length fields)
+  pub whole : raw_fields (first_record (drop from file)).text ≡ fields ++ raw_fields (first_record (drop at file)).text
+  pub counted : count ≡ min 5 (length fields)
   pub valued : Valued fields
-  pub starts : length start ≡ 4
-  pub ends : length end ≡ 4
-  pub doubles : length doubled ≡ 4
-  pub places : Places (first_record (drop from file)).text start end doubled count fields
-  -- where there are more
-  pub begins : more ≡ true → at ≤ length file
+  pub room : length places ≡ 4
+  pub stand : Places (first_record (drop from file)).text places count fields
+  pub begins : at ≤ length file
   pub done : List ℕ
-  pub place : more ≡ true → at ≡ from + length done
-  pub text : more ≡ true → (first_record (drop from file)).text ≡ done ++ (first_record (drop at file)).text
-  pub span : more ≡ true → record_span file from ≡ record_span file at
-  -- and where not
-  pub stops : more ≡ false → stop ≡ (record_span file from).end
-  pub next : more ≡ false → at ≡ (record_span file from).next
+  pub place : at ≡ from + length done
+  pub text : (first_record (drop from file)).text ≡ done ++ (first_record (drop at file)).text
+  pub span : record_span file from ≡ record_span file at
 
-pub none_passed : (file : List ℕ) (from : ℕ) (start end : List ℕ) (doubled : List Bool) → from ≤ length file → length start ≡ 4 → length end ≡ 4
-    → length doubled ≡ 4 → Passed file from start end doubled 0 from from true
+pub none_passed : (file : List ℕ) (from : ℕ) → from ≤ length file → Passed file from 0 (replicate 4 nowhere) from
 unfolding read_all
-none_passed file from start end doubled inside starts ends doubles =
+none_passed file from inside =
     record {
       fields = [];
       whole = refl;
-      counts = refl;
+      counted = refl;
       valued = ([], refl);
-      starts = starts;
-      ends = ends;
-      doubles = doubles;
-      places = λ j l m. absurd (omega arith);
-      begins = λ more. inside;
+      room = refl;
+      stand = λ j l m. absurd (omega arith);
+      begins = inside;
       done = [];
-      place = λ more. omega arith;
-      text = λ more. refl;
-      span = λ more. refl;
-      stops = λ over. absurd (true≢false over);
-      next = λ over. absurd (true≢false over);
+      place = omega arith;
+      text = refl;
+      span = refl;
     }
 
-module _ {file start end : List ℕ} {doubled : List Bool} {from count at stop : ℕ} {more : Bool}
-    (p : Passed file from start end doubled count at stop more) (again : more ≡ true) (read : FieldRead) (e : read ≡ field_read file at) where
+module _ {file : List ℕ} {from count : ℕ} {places : List FieldPlace} {at : ℕ} (p : Passed file from count places at) where
   -- a field that breaks the grammar
-  pub cut-broken : read.sound ≡ false → field_values (first_record (drop from file)).text ≡ none
-  unfolding field_values
-  cut-broken unsound =
-      let rest : field_values (first_record (drop at file)).text ≡ none = broken_record file at (rw e at unsound) in
-      rw (p.whole, again) (left-broken p.fields (raw_fields (first_record (drop at file)).text) rest)
+  pub cut-broken : field_read file at ≡ None → CutAt file from None
+  unfolding CutAt field_values
+  cut-broken broken = rw p.whole (left-broken p.fields (raw_fields (first_record (drop at file)).text) (broken_record file at broken))
 
-  module _ (sound : read.sound ≡ true) where
+  module _ (read : FieldRead) (is : field_read file at ≡ Some read) where
     pub told : ReadAt file at read
-    told = rw e (field_told file at (rw e at sound))
+    told = field_told file at is
 
-    -- what is left of the file, and one more for the field that may stand at its end, as long as there are more
-    pub less-left : cond read.more (length file + 1 - read.next) 0 < cond more (length file + 1 - at) 0
-    less-left = rw again (go read.more refl)
-      where
-        go : (t : Bool) → read.more ≡ t → cond t (length file + 1 - read.next) 0 < length file + 1 - at
-        go true goes = omega (arith, told.behind goes, told.ends, told.inside goes)
-        go false over = omega (arith, p.begins again)
-
-    next-whole : raw_fields (first_record (drop from file)).text
-        ≡ (p.fields ++ told.raw ∷ []) ++ cond read.more (raw_fields (first_record (drop read.next file)).text) []
-    next-whole =
-        (rw again at p.whole)
-        ∙ ap (λ (fields : List (List ℕ)). p.fields ++ fields) told.fields
-        ∙ sym (append_snoc p.fields told.raw _)
+    -- what is left of the file, and one more for the field that may stand at its end
+    pub less-left : read.more ≡ true → length file + 1 - read.next < length file + 1 - at
+    less-left goes = omega (arith, told.behind goes, told.ends, told.inside goes)
 
     next-text : (first_record (drop from file)).text ≡ p.done ++ (told.raw ++ told.tail)
-    next-text = p.text again ∙ ap (λ (text : List ℕ). p.done ++ text) told.text
+    next-text = p.text ∙ ap (λ (text : List ℕ). p.done ++ text) told.text
 
     -- the field stands in the text
-    next_place : Place (first_record (drop from file)).text (at - from) (read.end - from) read.doubled told.raw
+    abbrev pub field_place : FieldPlace
+    field_place = record { start = at - from; end = read.end - from; doubled = read.doubled }
+
+    next_place : Place (first_record (drop from file)).text field_place told.raw
     next_place =
-        let s : at - from ≡ length p.done = omega (arith, p.place again) in
-        let t : read.end - from ≡ length p.done + length told.raw = omega (arith, p.place again, told.ends) in
+        let s : at - from ≡ length p.done = omega (arith, p.place) in
+        let t : read.end - from ≡ length p.done + length told.raw = omega (arith, p.place, told.ends) in
         rw (s, t)
         (place-behind (first_record (drop from file)).text p.done told.raw told.tail told.value read.doubled next-text told.valued
         told.doubled)
 
     -- its place is stored where there is room
-    pub record Stored (start' end' : List ℕ) (doubled' : List Bool) : Type 0 where
+    pub record Stored (places' : List FieldPlace) : Type 0 where
       pub room : count < 4
-      pub starts : start' ≡ set start count (at - from)
-      pub ends : end' ≡ set end count (read.end - from)
-      pub doubles : doubled' ≡ set doubled count read.doubled
+      pub stores : places' ≡ set places count field_place
 
-    pub record Full (start' end' : List ℕ) (doubled' : List Bool) : Type 0 where
+    pub record Full (places' : List FieldPlace) : Type 0 where
       pub full : 4 ≤ count
-      pub starts : start' ≡ start
-      pub ends : end' ≡ end
-      pub doubles : doubled' ≡ doubled
+      pub keeps : places' ≡ places
 
-    -- the next field is passed
-    pub next-passed : (start' end' : List ℕ) (doubled' : List Bool) (count' : ℕ) → Stored start' end' doubled' ⊎ Full start' end' doubled'
-        → count' ≡ min 5 (count + 1) → Passed file from start' end' doubled' count' read.next read.end read.more
-    next-passed start' end' doubled' count' stored counts =
-        let n = length-append p.fields (told.raw ∷ []) in
-        let sizes = lengths stored in
-        record {
-          fields = p.fields ++ told.raw ∷ [];
-          whole = next-whole;
-          counts = omega (arith, p.counts);
-          valued = one-valued p.fields told.raw told.value told.valued p.valued;
-          starts = sizes.0;
-          ends = sizes.1;
-          doubles = sizes.2;
-          places = places stored;
-          begins = told.inside;
-          done = p.done ++ (told.raw ++ comma ∷ []);
-          place = λ goes.
-              omega (
-                arith,
-                p.place again,
-                told.ends,
-                told.behind goes,
-                length-append p.done (told.raw ++ comma ∷ []),
-                length-append told.raw (comma ∷ []),
-              );
-          text = λ goes.
-              next-text
-              ∙ rw (told.onward goes)
-              (ap (λ (text : List ℕ). p.done ++ text) (sym (append_assoc told.raw (comma ∷ []) (first_record (drop read.next file)).text))
-              ∙ sym (append_assoc p.done (told.raw ++ comma ∷ []) (first_record (drop read.next file)).text));
-          span = λ goes. p.span again ∙ told.span goes;
-          stops = λ over. sym (rw (p.span again) (told.stops over));
-          next = λ over. sym (rw (p.span again) (told.next over));
-        }
-      where
-        lengths : Stored start' end' doubled' ⊎ Full start' end' doubled' → (length start' ≡ 4) × (length end' ≡ 4) × (length doubled' ≡ 4)
-        lengths (inl s) = (
-          rw s.starts (length-set start count (at - from) ∙ p.starts),
-          rw s.ends (length-set end count (read.end - from) ∙ p.ends),
-          rw s.doubles (length-set doubled count read.doubled ∙ p.doubles),
-        )
-        lengths (inr s) = (rw s.starts p.starts, rw s.ends p.ends, rw s.doubles p.doubles)
+    -- the last one
+    module _ (over : read.more ≡ false) where
+      -- its text stands between the record's beginning and its end
+      pub last-stands : from ≤ length file → (from ≤ read.end) × (read.end ≤ length file)
+          × (take (read.end - from) (drop from file) ≡ (first_record (drop from file)).text)
+      last-stands inside =
+          let stands = record_stands file from inside in
+          let end : (record_span file from).end ≡ read.end = rw p.span (told.stops over) in
+          rw (← end) (stands.starts, stands.stops, stands.text)
 
-        places : Stored start' end' doubled' ⊎ Full start' end' doubled'
-            → Places (first_record (drop from file)).text start' end' doubled' count' (p.fields ++ told.raw ∷ [])
-        places (inl s) =
-            let total : count' ≡ count + 1 = omega (arith, s.room) in
-            let counted : count ≡ length p.fields = omega (arith, p.counts, s.room) in
-            rw (s.starts, s.ends, s.doubles, total)
-            (place_stored _ start end doubled count p.fields told.raw p.places (at - from) (read.end - from) read.doubled
-            s.room p.starts p.ends p.doubles counted next_place)
-        places (inr s) =
-            rw (s.starts, s.ends, s.doubles)
-            (places_same _ start end doubled count p.fields told.raw p.places count' s.full (omega (arith, p.counts)))
+      pub last-next : read.next ≡ (record_span file from).next
+      last-next = sym (rw p.span (told.next over))
 
--- all fields are passed
-pub all-passed : {file : List ℕ} {from : ℕ} (r : Fields) {more : Bool} → r.sound ≡ true
-    → Passed file from r.start r.end r.doubled r.count r.next r.stop more → more ≡ false → CutAt file from r
-unfolding field_values
-all-passed {file} {from} r sound p over =
-    let whole : raw_fields (first_record (drop from file)).text ≡ p.fields = (rw over at p.whole) ∙ append-nil p.fields in
-    record {
-      broken = λ unsound. absurd (true≢false (sym sound ∙ unsound));
-      cut = λ sound.
+    -- the fields of the record, up to this one and those behind it
+    fields-told : {t : Bool} → read.more ≡ t → raw_fields (first_record (drop from file)).text
+        ≡ p.fields ++ (told.raw ∷ cond t (raw_fields (first_record (drop read.next file)).text) [])
+    fields-told is =
+        p.whole
+        ∙ ap (λ (fields : List (List ℕ)). p.fields ++ fields)
+        (told.fields ∙ ap (λ (t : Bool). told.raw ∷ cond t (raw_fields (first_record (drop read.next file)).text) []) is)
+
+    -- with the next field
+    module _ (places' : List FieldPlace) (count' : ℕ) (stored : Stored places' ⊎ Full places') (counts : count' ≡ min 5 (count + 1)) where
+      next-room : length places' ≡ 4
+      next-room = go stored
+        where
+          go : Stored places' ⊎ Full places' → length places' ≡ 4
+          go (inl s) = rw s.stores (length-set places count field_place ∙ p.room)
+          go (inr s) = rw s.keeps p.room
+
+      next-counted : count' ≡ min 5 (length (p.fields ++ told.raw ∷ []))
+      next-counted = omega (arith, p.counted, length-append p.fields (told.raw ∷ []))
+
+      next-stand : Places (first_record (drop from file)).text places' count' (p.fields ++ told.raw ∷ [])
+      next-stand = go stored
+        where
+          go : Stored places' ⊎ Full places' → Places (first_record (drop from file)).text places' count' (p.fields ++ told.raw ∷ [])
+          go (inl s) =
+              let total : count' ≡ count + 1 = omega (arith, s.room) in
+              let known : count ≡ length p.fields = omega (arith, p.counted, s.room) in
+              rw (s.stores, total) (place_stored _ places count p.fields told.raw p.stand field_place s.room p.room known next_place)
+          go (inr s) = rw s.keeps (places_same _ places count p.fields told.raw p.stand count' s.full (omega (arith, p.counted)))
+
+      -- it is passed, where there are more
+      pub next-passed : read.more ≡ true → Passed file from count' places' read.next
+      next-passed goes =
           record {
-            starts = p.starts;
-            ends = p.ends;
-            doubles = p.doubles;
-            values = p.valued.0;
-            valued = rw whole p.valued.1;
-            count = rw whole p.counts;
-            inside = λ j l m. ((p.places j l m).begins, (p.places j l m).ends);
-            field = λ j l m. rw whole (p.places j l m).stands;
-            doubled = λ j l m e. (p.places j l m).quotes (rw whole at e);
-          };
-      stop = λ sound. p.stops over;
-      next = λ sound. p.next over;
-    }
+            fields = p.fields ++ told.raw ∷ [];
+            whole = fields-told goes ∙ sym (append_snoc p.fields told.raw _);
+            counted = next-counted;
+            valued = one-valued p.fields told.raw told.value told.valued p.valued;
+            room = next-room;
+            stand = next-stand;
+            begins = told.inside goes;
+            done = p.done ++ (told.raw ++ comma ∷ []);
+            place = omega (
+              arith,
+              p.place,
+              told.ends,
+              told.behind goes,
+              length-append p.done (told.raw ++ comma ∷ []),
+              length-append told.raw (comma ∷ []),
+            );
+            text = next-text
+                ∙ rw (told.onward goes)
+                (ap (λ (text : List ℕ). p.done ++ text) (sym (append_assoc told.raw (comma ∷ []) (first_record (drop read.next file)).text))
+                ∙ sym (append_assoc p.done (told.raw ++ comma ∷ []) (first_record (drop read.next file)).text));
+            span = p.span ∙ told.span goes;
+          }
 
--- a field broke the grammar
-pub none-cut : {file : List ℕ} {from : ℕ} (r : Fields) → r.sound ≡ false → field_values (first_record (drop from file)).text ≡ none → CutAt file from r
-none-cut r unsound e =
-    record {
-      broken = λ u. e;
-      cut = λ sound. absurd (true≢false (sym sound ∙ unsound));
-      stop = λ sound. absurd (true≢false (sym sound ∙ unsound));
-      next = λ sound. absurd (true≢false (sym sound ∙ unsound));
-    }
+      -- or is the last one: all are passed
+      module _ (over : read.more ≡ false) where
+        all-fields : raw_fields (first_record (drop from file)).text ≡ p.fields ++ told.raw ∷ []
+        all-fields = fields-told over
 
--- the record's text in the file
-pub text-stands : {file : List ℕ} {from : ℕ} {r : Fields} → CutAt file from r → r.sound ≡ true → from ≤ length file
-    → (from ≤ r.stop) × (r.stop ≤ length file) × (take (r.stop - from) (drop from file) ≡ (first_record (drop from file)).text)
-text-stands {file} {from} c sound inside =
-    let stands = record_stands file from inside in
-    rw (c.stop sound) (stands.starts, stands.stops, stands.text)
+        pub last-cut : IsCut (first_record (drop from file)).text count' places'
+        unfolding field_values
+        last-cut =
+            let (values, valued) = one-valued p.fields told.raw told.value told.valued p.valued in
+            record {
+              whole = next-room;
+              sound = λ broken. none-ne-some values (sym broken ∙ rw all-fields valued);
+              counted = rw all-fields next-counted;
+              stand = rw all-fields next-stand;
+            }

@@ -3,15 +3,16 @@ use Rattle.std.specs.Prelude.{◌≡◌, ℕ, suc, length, get_or}
 use Rattle.std.proofs.Math.Path.{refl, ap}
 use Rattle.std.proofs.Common.{◌∙◌, arith}
 use mathlib.Core.List.{List, [], ◌∷◌}
-use Rattle.std.proofs.Math.Option.{none, some}
+use Rattle.std.proofs.Math.Option.{Option, none, some}
 use Rattle.rfc4180.specs.Fields.{raw_fields, field_value, read_all, field_values}
 use Rattle.rfc4180.proofs.Laws.Records.{and-then}
 use Rattle.planning.specs.declared.Fault.TheVariants.{Grammar}
 use Rattle.planning.specs.declared.Fault.TheVariants as what
 use Rattle.planfile.proofs.Laws.Records.{field_list, fields-iff}
 use Rattle.planfile.specs.Reading.{fault, FourFields, four_of, unless_broken, fields_of}
-use Rattle.planreader.specs.declared.entry.Fields.{Fields}
-use Rattle.planreader.specs.Parts.{IsCut, Valued}
+use Rattle.planreader.specs.declared.entry.FieldPlace.{FieldPlace}
+use Rattle.planreader.specs.Fields.{IsCut}
+use Rattle.planreader.specs.Parts.{Valued}
 
 -- raw fields that all have a value have as many values
 values_length : (raws values : List (List ℕ)) → read_all field_value raws ≡ some values → length values ≡ length raws
@@ -55,13 +56,22 @@ pub text-broken : (text : List ℕ) → field_values text ≡ none → (r : ℕ)
 unfolding fields_of unless_broken
 text-broken text e r = rw e
 
-module _ {text : List ℕ} {cut : Fields} (c : IsCut text cut) where
+module _ {text : List ℕ} {count : ℕ} {places : List FieldPlace} (c : IsCut text count places) where
+  -- its values
+  read_values : (values : List (List ℕ)) × (field_values text ≡ some values)
+  read_values = go (field_values text) refl
+    where
+      go : (o : Option (List (List ℕ))) → field_values text ≡ o → (values : List (List ℕ)) × (field_values text ≡ some values)
+      go none e = absurd (c.sound e)
+      go (some values) e = (values, e)
+
   -- 3
-  pub cut-other : (cut.count ≡ 4 → ⊥) → (r : ℕ) → fields_of r text ≡ fault what.Fields r
+  pub cut-other : (count ≡ 4 → ⊥) → (r : ℕ) → fields_of r text ≡ fault what.Fields r
   unfolding fields_of unless_broken field_values
   cut-other other r =
-      ap (unless_broken r) c.valued
-      ∙ go c.values (λ four. other (omega (arith, c.count, values_length (raw_fields text) c.values c.valued)))
+      let (values, valued) = read_values in
+      ap (unless_broken r) valued
+      ∙ go values (λ four. other (omega (arith, c.counted, values_length (raw_fields text) values valued)))
     where
       go : (values : List (List ℕ)) → (length values ≡ 4 → ⊥) → four_of r values ≡ fault what.Fields r
       go [] n = unfold four_of in refl
@@ -72,11 +82,9 @@ module _ {text : List ℕ} {cut : Fields} (c : IsCut text cut) where
       go (a ∷ b ∷ c ∷ d ∷ more ∷ others) n = unfold four_of in refl
 
   -- the four fields
-  pub cut_four : cut.count ≡ 4 → (x : FourFields) × Valued text x
+  pub cut_four : count ≡ 4 → (x : FourFields) × Valued text x
   unfolding field_values Values
-  cut_four four = go c.values c.valued
-    where
-      go : (values : List (List ℕ)) → field_values text ≡ some values → (x : FourFields) × Valued text x
-      go values read =
-          let (x, list, (p, (q, (s, t)))) = four_values (raw_fields text) values (omega (arith, c.count)) read in
-          (x, record { read = λ r. (fields-iff r text x).1 (read ∙ ap some list); first = p; second = q; third = s; fourth = t })
+  cut_four four =
+      let (values, valued) = read_values in
+      let (x, list, (p, (q, (s, t)))) = four_values (raw_fields text) values (omega (arith, c.counted)) valued in
+      (x, record { read = λ r. (fields-iff r text x).1 (valued ∙ ap some list); first = p; second = q; third = s; fourth = t })

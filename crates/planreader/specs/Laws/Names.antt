@@ -1,13 +1,18 @@
--- How texts are compared and names are tested and found, one byte or one name after the other, and the text that a field's name is taken from.
+-- How texts are compared and names are tested and found, and the text that a field's name is taken from.
 -- Assumes nothing.
-use Rattle.std.specs.Prelude.{◌≡◌, refl, ◌⊎◌, ℕ, suc, ◌+◌, ◌≤◌, ◌<◌, Bool, true, false, ◌&&◌, length, take, drop, get_or}
-use Rattle.std.proofs.Common.{sym, ap, ap₂, ◌∙◌, inl, inr, add-one, arith, drop_of_length-le, drop-cons}
+use Rattle.std.specs.Prelude.{◌≡◌, refl, ◌⊎◌, ℕ, suc, ◌+◌, ◌≤◌, ◌<◌, Bool, true, false, cond, not, ◌&&◌, Option, None, Some, Ok, Err, length, take, drop, leb, nat_eq}
+use Rattle.std.specs.Cmp.Lexicographic.{pointwise, same_text, other_text}
+use Rattle.std.specs.List.{position_or_len, list_all}
+use Rattle.std.proofs.Common.{sym, ap, ◌∙◌, inl, inr, arith}
+use Rattle.std.specs.Option.{is_some}
+use Rattle.std.proofs.lemmas.Bool.{lt-ltb, le-ltb}
+use Rattle.std.proofs.lemmas.List.Recursion.{is_position_or_len}
 use Rattle.std.proofs.Math.Option.{some}
 use Rattle.std.proofs.Math.Bool.{and-false}
 use mathlib.Core.List.{List, [], ◌∷◌}
 use Rattle.std.proofs.Math.Seq.{take-append_seam}
-use Rattle.csv_fields.specs.declared.Undone.{Undone}
-use Rattle.csv_fields.specs.declared.Undone.TheVariants.{Length}
+use Rattle.csv_fields.specs.declared.UndoError.{UndoError}
+use Rattle.csv_fields.specs.Results.{Undone}
 use Rattle.csv_fields.specs.Laws.Parts.{inside-escaped, inside-text}
 use Rattle.csv_fields.specs.Promises.{HandsPart, Undoes}
 use Rattle.csv_fields.specs.Spans.{inside_of, holds_quote}
@@ -15,15 +20,25 @@ use Rattle.rfc4180.specs.Fields.{field_value}
 use Rattle.rfc4180.specs.Grammar.{Escaped, escaped-end, escaped-text, escaped-comma, escaped_cr, escaped_lf, escaped-quote, Field, field-escaped, field_non_escaped}
 use Rattle.rfc4180.proofs.Laws.Fields.{field-sound}
 use Rattle.planning.proofs.Laws.Finite.Decisions.{le-or-lt}
-use Rattle.planning.proofs.Laws.Tables.{length-listed, listed_at}
+use Rattle.planning.specs.Numbers.{within}
 use Rattle.planfile.specs.Bounds.{most_name_bytes, least_name_byte, most_name_byte}
-use Rattle.planfile.proofs.Laws.Tests.{same-iff}
+use Rattle.planfile.proofs.Laws.Tests.{same-iff, used-place, unused-place}
 use Rattle.planfile.specs.Reading.{same, name_bytes, sound_name, unused, place_of}
-use Rattle.planreader.specs.Laws.Parts.{within-below, within-above, within_both}
-use Rattle.planreader.specs.Parts.{NameFor}
-use Rattle.planreader.specs.Plans.{name_at, name_list}
+use Rattle.planreader.specs.Items.{place_among}
+use Rattle.planreader.specs.Laws.Parts.{within-below, within-above}
+use Rattle.planreader.specs.Fields.{NameFor}
 
 -- ---- two texts
+
+-- the library's comparison of texts is that of the reading
+pub pointwise-same : (text other : List ℕ) → pointwise nat_eq text other ≡ same text other
+pointwise-same text other = go (pointwise nat_eq text other) (same text other) refl refl
+  where
+    go : (t u : Bool) → pointwise nat_eq text other ≡ t → same text other ≡ u → t ≡ u
+    go true true p q = refl
+    go true false p q = sym ((sym q) ∙ (same-iff text other).1 (same_text text other (sym p)))
+    go false true p q = absurd (other_text text other (sym p) ((same-iff text other).0 q))
+    go false false p q = refl
 
 -- texts of different lengths are not the same
 pub same-lengths : (text other : List ℕ) → (length text ≡ length other → ⊥) → same text other ≡ false
@@ -33,74 +48,82 @@ same-lengths [] (b ∷ bs) ne = refl
 same-lengths (a ∷ rest) [] ne = refl
 same-lengths (a ∷ rest) (b ∷ bs) ne = rw (same-lengths rest bs (λ e. ne (ap suc e)), and-false)
 
--- nor are texts that differ in a byte
-pub same-unlike : (text other : List ℕ) (i : ℕ) → (get_or text i 0 ≡ get_or other i 0 → ⊥) → same text other ≡ false
-same-unlike text other i ne = go (same text other) refl
-  where
-    go : (t : Bool) → same text other ≡ t → t ≡ false
-    go true e = absurd (ne (ap (λ (l : List ℕ). get_or l i 0) ((same-iff text other).0 e)))
-    go false e = refl
+-- as a function that compares says it, of a word in the file
+pub compared : {t : Bool} {word : List ℕ} (text other : List ℕ) → t ≡ pointwise nat_eq text other → other ≡ word → t ≡ same text word
+compared text other e is = e ∙ pointwise-same text other ∙ ap (same text) is
 
--- texts that are the same from the byte behind a place on are so from the place on where they have the same byte there
-pub same-before : (text other : List ℕ) (i next : ℕ) → suc i ≡ next → i < length text → i < length other → get_or text i 0 ≡ get_or other i 0
-    → drop next text ≡ drop next other → drop i text ≡ drop i other
-same-before text other i next e l m byte rest =
-    drop-cons text i 0 l ∙ ap₂ ◌∷◌ byte (rw e rest) ∙ sym (drop-cons other i 0 m)
+pub contrasted : (t : Bool) {word : List ℕ} (text other : List ℕ) → t ≡ not (pointwise nat_eq text other) → other ≡ word → not t ≡ same text word
+contrasted t text other e is = ap not e ∙ twice (pointwise nat_eq text other) ∙ compared text other refl is
+  where
+    twice : (t : Bool) → not (not t) ≡ t
+    twice true = refl
+    twice false = refl
 
 -- ---- the bytes of a name
 
--- a name has no more and no fewer bytes than a name may have, and then goes by its bytes
+-- the bytes of a name, as tests of each
+name-bytes-tests : (name : List ℕ) → name_bytes name ≡ list_all (λ (b : ℕ). leb least_name_byte b && leb b most_name_byte) name
+unfolding name_bytes within
+name-bytes-tests [] = refl
+name-bytes-tests (b ∷ bs) = rw (name-bytes-tests bs)
+
+pub sound-tests : (name : List ℕ) → sound_name name
+    ≡ ((leb 1 (length name) && leb (length name) most_name_bytes) && list_all (λ (b : ℕ). leb least_name_byte b && leb b most_name_byte) name)
+unfolding sound_name within
+sound-tests name = rw (name-bytes-tests name)
+
+-- a name has no more and no fewer bytes than a name may have
 pub unsound_length : (name : List ℕ) → (length name < 1) ⊎ (most_name_bytes < length name) → sound_name name ≡ false
 unfolding sound_name
 unsound_length name (inl l) = rw (within-below 1 most_name_bytes (length name) l)
 unsound_length name (inr l) = rw (within-above 1 most_name_bytes (length name) l)
 
-pub sound-bytes : (name : List ℕ) → 1 ≤ length name → length name ≤ most_name_bytes → sound_name name ≡ name_bytes name
-unfolding sound_name
-sound-bytes name l m = rw (within_both 1 most_name_bytes (length name) l m)
-
-module _ (name : List ℕ) (i : ℕ) where
-  pub name-bytes-end : length name ≤ i → name_bytes (drop i name) ≡ true
-  unfolding name_bytes
-  name-bytes-end l = rw (drop_of_length-le name {i = i} l)
-
-  -- a byte that may stand in a name is passed, and another one decides
-  pub name_byte_passed : i < length name → least_name_byte ≤ get_or name i 0 → get_or name i 0 ≤ most_name_byte
-      → name_bytes (drop i name) ≡ name_bytes (drop (i + 1) name)
-  unfolding name_bytes
-  name_byte_passed l low high = rw (drop-cons name i 0 l, name_bytes, within_both least_name_byte most_name_byte _ low high, add-one)
-
-  pub name_byte_other : i < length name → (get_or name i 0 < least_name_byte) ⊎ (most_name_byte < get_or name i 0) → name_bytes (drop i name) ≡ false
-  unfolding name_bytes
-  name_byte_other l (inl low) = rw (drop-cons name i 0 l, name_bytes, within-below least_name_byte most_name_byte _ low)
-  name_byte_other l (inr high) = rw (drop-cons name i 0 l, name_bytes, within-above least_name_byte most_name_byte _ high)
-
 -- ---- a name among others
 
--- the place of a name, from place k on: another name is passed, and the same one decides
-module _ (name : List ℕ) (names : List (List ℕ)) (k : ℕ) where
-  pub place_end : length names ≤ k → k + place_of name (drop k names) ≡ k
+place-next : (name other : List ℕ) (names : List (List ℕ)) → place_of name (other ∷ names) ≡ cond (pointwise nat_eq name other) 0 (1 + place_of name names)
+unfolding place_of
+place-next name other names = rw (pointwise-same name other) (ap (cond (same name other) 0) (omega arith))
+
+module _ (name : List ℕ) (names : List (List ℕ)) where
+  -- its place, which is behind them all where it is none of them
+  place-first : place_of name names ≡ position_or_len (λ (other : List ℕ). pointwise nat_eq name other) names
   unfolding place_of
-  place_end l = rw (drop_of_length-le names {i = k} l) (omega arith)
+  place-first =
+      is_position_or_len (place_of name) (λ (other : List ℕ). pointwise nat_eq name other) refl (place-next name) names
 
-  pub place-passed : k < length names → same name (get_or names k []) ≡ false
-      → k + place_of name (drop k names) ≡ (k + 1) + place_of name (drop (k + 1) names)
-  unfolding place_of
-  place-passed l e = rw (drop-cons names k [] l, place_of, e, add-one) (omega arith)
+  pub placed-none : place_among name names ≡ None → length names ≤ place_of name names
+  placed-none e = go (le-or-lt (length names) (place_of name names))
+    where
+      go : (length names ≤ place_of name names) ⊎ (place_of name names < length names) → length names ≤ place_of name names
+      go (inl l) = l
+      go (inr l) =
+          let test = lt-ltb (place_of name names) (length names) l in
+          absurd (cc (rw (← place-first, test) at e))
 
-  pub place_here : k < length names → same name (get_or names k []) ≡ true → k + place_of name (drop k names) ≡ k
-  unfolding place_of
-  place_here l e = rw (drop-cons names k [] l, place_of, e) (omega arith)
+  pub placed-some : {k : ℕ} → place_among name names ≡ Some k → (place_of name names ≡ k) × (k < length names)
+  placed-some {k} e = go (le-or-lt (length names) (place_of name names))
+    where
+      go : (length names ≤ place_of name names) ⊎ (place_of name names < length names) → (place_of name names ≡ k) × (k < length names)
+      go (inl l) =
+          let test = le-ltb (place_of name names) (length names) l in
+          absurd (cc (rw (← place-first, test) at e))
+      go (inr l) =
+          let test = lt-ltb (place_of name names) (length names) l in
+          let is : place_of name names ≡ k = cc (rw (← place-first, test) at e) in
+          (is, omega arith)
 
--- n names have n places
-module _ (n : ℕ) (names sizes : List ℕ) where
-  pub names-count : length (name_list n names sizes) ≡ n
-  unfolding name_list
-  names-count = length-listed n _
+  -- it is unused where it has none
+  unused-placed : unused name names ≡ not (is_some (place_among name names))
+  unused-placed = go (place_among name names) refl
+    where
+      go : (o : Option ℕ) → place_among name names ≡ o → unused name names ≡ not (is_some o)
+      go None e = unused-place name names (placed-none e)
+      go (Some k) e = used-place name names (omega (arith, placed-some e))
 
-  pub name-listed : (k : ℕ) → k < n → get_or (name_list n names sizes) k [] ≡ name_at names sizes k
-  unfolding name_list
-  name-listed k l = listed_at n k _ [] l
+  -- as functions that test it say it
+  pub name_told : {sound used : Bool} → sound ≡ sound_name name → used ≡ is_some (place_among name names)
+      → (sound_name name && unused name names) ≡ (sound && not used)
+  name_told p q = rw (p, q, unused-placed)
 
 -- ---- the text that a field's name is taken from
 
@@ -126,7 +149,7 @@ module _ (raw value part : List ℕ) (reads : field_value raw ≡ some value) (h
 
   -- undone into a buffer that a name fits, or too long: so is the part
   module _ (lent : List ℕ) (space : length lent ≡ most_name_bytes) {r : Undone} {left : List ℕ} (undone : Undoes raw lent r left) where
-    pub name-undone : (n : ℕ) → r ≡ Length n → NameFor value (take n left)
+    pub name-undone : (n : ℕ) → r ≡ Ok n → NameFor value (take n left)
     name-undone n e = go (le-or-lt (length value) (length lent))
       where
         go : (length value ≤ length lent) ⊎ (length lent < length value) → NameFor value (take n left)
@@ -137,14 +160,15 @@ module _ (raw value part : List ℕ) (reads : field_value raw ≡ some value) (h
             rw front (record { short = λ l. refl; long = λ l. l })
         go (inr l) =
             let told = (undone.too_long (field-sound raw value reads) l).0 in
-            let z : ◌≡◌ {A = ℕ} 0 1 = cc in
-            absurd (omega arith)
+            absurd (cc)
 
-    pub name_too_long : ((n : ℕ) → r ≡ Length n → ⊥) → NameFor value part
-    name_too_long other = go (le-or-lt (length value) (length lent))
+    pub name_too_long : {why : UndoError} → r ≡ Err why → NameFor value part
+    name_too_long failed = go (le-or-lt (length value) (length lent))
       where
         go : (length value ≤ length lent) ⊎ (length lent < length value) → NameFor value part
-        go (inl l) = absurd (other (length value) (undone.fits (field-sound raw value reads) l).0)
+        go (inl l) =
+            let told = (undone.fits (field-sound raw value reads) l).0 in
+            absurd (cc)
         go (inr l) =
             record {
               short = λ m. absurd (omega arith);

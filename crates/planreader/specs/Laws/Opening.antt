@@ -1,5 +1,5 @@
 -- Record 1, one check after the other, by what stands inside its fields. Assumes nothing.
-use Rattle.std.specs.Prelude.{◌≡◌, refl, true, false, List, [], ℕ, get_or}
+use Rattle.std.specs.Prelude.{◌≡◌, refl, true, false, None, Some, List, [], ℕ, get_or}
 use Rattle.rfc4180.specs.Fields.{raw_fields}
 use Rattle.rfc4180.specs.Text.{ascii}
 use Rattle.csv_fields.specs.Spans.{inside_of, holds_quote}
@@ -10,8 +10,6 @@ use Rattle.planning.specs.declared.Mode.TheVariants.{Fixed, Shortest}
 use Rattle.planning.specs.Bounds.{most_minutes, most_tries}
 use Rattle.planfile.specs.FilePlan.{begun}
 use Rattle.planfile.specs.Reading.{accepted, ◌>>=◌, fault, require, same, FourFields, fields_of, mode_by, read_mode, read_number, read_plan}
-use Rattle.planreader.specs.declared.numeral.Ranged.TheVariants as ranged
-use Rattle.planreader.specs.declared.opening.ModeField.TheVariants as field
 use Rattle.planreader.specs.Laws.FieldNumbers.{number-inside}
 use Rattle.planreader.specs.Laws.Parts.{by_ranged, read-by-ranged}
 use Rattle.planreader.specs.Laws.Words.{word_same}
@@ -67,20 +65,20 @@ module _ (x : FourFields) where
   plan_kind e = rw (← e)
 
   module _ (kind : true ≡ same x.first (ascii "plan")) where
-    pub plan-mode : mode_read field.Fault ≡ read_mode 1 x.second → read_plan x ≡ fault Value 1
+    pub plan-mode : mode_read None ≡ read_mode 1 x.second → read_plan x ≡ fault Value 1
     unfolding read_plan ◌>>=◌ require fault mode_read
     plan-mode e = rw (← kind, ← e)
 
-    module _ (mode : Mode) (known : mode_read (field.Known mode) ≡ read_mode 1 x.second) where
-      pub plan-minutes : ranged.Fault ≡ ranged_of 1 most_minutes x.third → read_plan x ≡ fault Value 1
+    module _ (mode : Mode) (known : mode_read (Some mode) ≡ read_mode 1 x.second) where
+      pub plan-minutes : None ≡ ranged_of 1 most_minutes x.third → read_plan x ≡ fault Value 1
       unfolding read_plan ◌>>=◌ require fault mode_read by_ranged
       plan-minutes e = rw (← kind, ← known, read-by-ranged 1 most_minutes 1 x.third, ← e)
 
-      module _ {minutes : ℕ} (third : ranged.Value minutes ≡ ranged_of 1 most_minutes x.third) where
-        pub plan-allowance : ranged.Fault ≡ ranged_of 0 most_tries x.fourth → read_plan x ≡ fault Value 1
+      module _ {minutes : ℕ} (third : Some minutes ≡ ranged_of 1 most_minutes x.third) where
+        pub plan-allowance : None ≡ ranged_of 0 most_tries x.fourth → read_plan x ≡ fault Value 1
         unfolding read_plan ◌>>=◌ require fault mode_read by_ranged
         plan-allowance e = rw (← kind, ← known, read-by-ranged 1 most_minutes 1 x.third, ← third, read-by-ranged 0 most_tries 1 x.fourth, ← e)
 
-        pub plan-read : {allowance : ℕ} → ranged.Value allowance ≡ ranged_of 0 most_tries x.fourth → read_plan x ≡ accepted (begun mode minutes allowance)
+        pub plan-read : {allowance : ℕ} → Some allowance ≡ ranged_of 0 most_tries x.fourth → read_plan x ≡ accepted (begun mode minutes allowance)
         unfolding read_plan ◌>>=◌ require fault mode_read by_ranged
         plan-read e = rw (← kind, ← known, read-by-ranged 1 most_minutes 1 x.third, ← third, read-by-ranged 0 most_tries 1 x.fourth, ← e)

@@ -1,30 +1,20 @@
 -- What the inner functions of the reading come to: how digits are read one by one up to the most, and what a number in its range is then read as.
 -- Assumes nothing.
-use Rattle.std.specs.Prelude.{◌≡◌, refl, ◌⊎◌, ℕ, ◌+◌, ◌*◌, ◌-◌, ◌≤◌, ◌<◌, Bool, true, false, cond, ◌&&◌, not, List, [], ◌∷◌, length, get_or, leb}
-use Rattle.std.proofs.Common.{sym, ◌∙◌, inl, inr, zero-add, arith, true≢false, le-leb}
+use Rattle.std.specs.Prelude.{None, Some, ◌≡◌, refl, ◌⊎◌, ℕ, ◌+◌, ◌*◌, ◌-◌, ◌≤◌, ◌<◌, Bool, true, false, cond, ◌&&◌, List, [], ◌∷◌, length, get_or, leb}
+use Rattle.std.proofs.Common.{sym, ◌∙◌, inl, inr, zero-add, arith, le-leb}
 use Rattle.std.proofs.Math.Path.{ap}
 use Rattle.std.proofs.Math.Bool.{and-true, and-false}
-use Rattle.std.proofs.lemmas.Bool.{false≢true, lt-leb}
+use Rattle.std.proofs.lemmas.Bool.{lt-leb}
 use Rattle.std.proofs.Math.Option.{Option, none, some}
 use Rattle.planning.proofs.Laws.Finite.Decisions.{le-or-lt}
 use Rattle.planning.specs.Numbers.{within}
-use Rattle.planreader.specs.declared.numeral.Ranged.{Ranged}
-use Rattle.planreader.specs.declared.numeral.Ranged.TheVariants.{Value, Fault}
 use Rattle.planfile.specs.Numerals.{digit_zero, digit_nine, value_behind, all_digits, number_of}
+use Rattle.planreader.specs.Results.{Ranged}
 use Rattle.planreader.specs.Parts.{ranged_by, ranged_of, capped_by, capped_value}
 use Rattle.planfile.specs.Reading.{Read, accepted, ◌>>=◌, fault, require, number_by, read_number}
 use Rattle.planning.specs.declared.Fault.TheVariants.{Value as ValueFault}
 
 -- ---- tests
-
--- a test and its negation
-pub not-true : (t : Bool) → not t ≡ true → t ≡ false
-not-true true e = absurd (false≢true e)
-not-true false e = refl
-
-pub not-false : (t : Bool) → not t ≡ false → t ≡ true
-not-false true e = refl
-not-false false e = absurd (true≢false e)
 
 -- a number is below its range, above it or within it
 pub within-below : (low high n : ℕ) → n < low → within low high n ≡ false
@@ -105,12 +95,12 @@ number_digits (d ∷ []) l lead = rw (and-true, zero-add)
 number_digits (d ∷ e ∷ ds) l lead = rw (first_digit d (λ z. omega (arith, lead z)))
 
 -- no text, or a zero before other bytes: no number
-pub ranged-empty : (low high : ℕ) (text : List ℕ) → length text ≡ 0 → ranged_of low high text ≡ Fault
+pub ranged-empty : (low high : ℕ) (text : List ℕ) → length text ≡ 0 → ranged_of low high text ≡ None
 unfolding ranged_of ranged_by number_of
 ranged-empty low high [] e = refl
 ranged-empty low high (d ∷ ds) e = absurd (omega arith)
 
-pub ranged_leading_zero : (low high : ℕ) (text : List ℕ) → get_or text 0 0 ≡ digit_zero → 1 < length text → ranged_of low high text ≡ Fault
+pub ranged_leading_zero : (low high : ℕ) (text : List ℕ) → get_or text 0 0 ≡ digit_zero → 1 < length text → ranged_of low high text ≡ None
 unfolding ranged_of ranged_by number_of
 ranged_leading_zero low high [] e l = refl
 ranged_leading_zero low high (d ∷ []) e l = absurd (omega arith)
@@ -118,26 +108,26 @@ ranged_leading_zero low high (d ∷ c ∷ ds) e l = rw (within-below (digit_zero
 
 -- any other text by its value, where that is at most the most
 value-ranged : (low high r : ℕ) (text : List ℕ) (digits : Bool) → capped_by digits text high r
-    → ranged_by low high (cond digits (some (value_behind 0 text)) none) ≡ cond (within low high r) (Value r) Fault
+    → ranged_by low high (cond digits (some (value_behind 0 text)) none) ≡ cond (within low high r) (Some r) None
 unfolding ranged_by capped_by
 value-ranged low high r text false h = rw (within-above low high r h)
 value-ranged low high r text true h = go (le-or-lt r high)
   where
     go : (r ≤ high) ⊎ (high < r)
-        → cond (within low high (value_behind 0 text)) (Value (value_behind 0 text)) Fault ≡ cond (within low high r) (Value r) Fault
+        → cond (within low high (value_behind 0 text)) (Some (value_behind 0 text)) None ≡ cond (within low high r) (Some r) None
     go (inl l) = rw (h.0 l)
     go (inr l) = rw (within-above low high r l, within-above low high (value_behind 0 text) (h.1 l))
 
 module _ (low high r : ℕ) (text : List ℕ) (some_byte : 1 ≤ length text) (lead : get_or text 0 0 ≡ digit_zero → length text ≤ 1)
     (capped : capped_value text high r) where
-  ranged-number : ranged_of low high text ≡ cond (within low high r) (Value r) Fault
+  ranged-number : ranged_of low high text ≡ cond (within low high r) (Some r) None
   unfolding ranged_of capped_value
   ranged-number = ap (ranged_by low high) (number_digits text some_byte lead) ∙ value-ranged low high r text (all_digits text) capped
 
-  pub ranged-inside : low ≤ r → r ≤ high → ranged_of low high text ≡ Value r
+  pub ranged-inside : low ≤ r → r ≤ high → ranged_of low high text ≡ Some r
   ranged-inside l m = ranged-number ∙ rw (within_both low high r l m)
 
-  pub ranged-outside : (r < low) ⊎ (high < r) → ranged_of low high text ≡ Fault
+  pub ranged-outside : (r < low) ⊎ (high < r) → ranged_of low high text ≡ None
   ranged-outside (inl l) = ranged-number ∙ rw (within-below low high r l)
   ranged-outside (inr l) = ranged-number ∙ rw (within-above low high r l)
 
@@ -145,10 +135,10 @@ module _ (low high r : ℕ) (text : List ℕ) (some_byte : 1 ≤ length text) (l
 
 -- a number in its range is read, and a fault is one of record r
 unfoldable pub by_ranged : (r : ℕ) → Ranged → Read ℕ
-by_ranged r (Value n) = accepted n
-by_ranged r Fault = fault ValueFault r
+by_ranged r (Some n) = accepted n
+by_ranged r None = fault ValueFault r
 
-required : (t : Bool) (r n : ℕ) → ◌>>=◌ (require t ValueFault r) (λ u. accepted n) ≡ by_ranged r (cond t (Value n) Fault)
+required : (t : Bool) (r n : ℕ) → ◌>>=◌ (require t ValueFault r) (λ u. accepted n) ≡ by_ranged r (cond t (Some n) None)
 unfolding ◌>>=◌ require fault by_ranged
 required true r n = refl
 required false r n = refl

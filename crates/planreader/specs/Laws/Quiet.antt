@@ -1,96 +1,103 @@
--- A quiet span of a record, one check after the other, and the column with it. Assumes nothing.
-use Rattle.std.specs.Prelude.{◌≡◌, refl, ◌⊎◌, Bool, ℕ, suc, ◌+◌, ◌*◌, ◌≤◌, ◌<◌, length, take, replicate}
+-- A quiet span of a record, one check after the other, and the plan by value with it. Assumes nothing.
+use Rattle.std.specs.Prelude.{◌≡◌, refl, ◌⊎◌, Bool, None, Some, Result, Ok, Err, ℕ, suc, ◌+◌, ◌*◌, ◌≤◌, ◌<◌, length, take}
 use Rattle.std.proofs.Math.Path.{sym, ap}
-use Rattle.std.proofs.Common.{◌∙◌, inl, inr, arith, length-append, length-take, length-take-le}
+use Rattle.std.proofs.Common.{◌∙◌, inl, inr, arith, length-append, length-take-le}
 use Rattle.std.proofs.Math.Bool.{true, false}
 use mathlib.Core.List.{List, [], ◌∷◌, ◌++◌, append_assoc}
 use Rattle.std.proofs.Math.Option.{none}
 use borrow.Author.Tests.{lt-ltb, le-ltb}
+use Rattle.planning.specs.declared.Fault.{Fault}
 use Rattle.planning.specs.declared.Fault.TheVariants.{Value, UnknownEngine, QuietSpan}
 use Rattle.planning.specs.Bounds.{most_engines, most_quiet, most_minutes}
 use Rattle.planning.proofs.Laws.Finite.Decisions.{le-or-lt}
 use Rattle.planning.proofs.Laws.Numbers.{QuietKept, kept-none, kept_more, kept_wider, then-iff, check-iff, within-iff}
 use Rattle.planning.proofs.Laws.Padded.{length-padded, take-padded}
 use Rattle.planning.proofs.Laws.Quiet.{few-spans}
-use Rattle.planning.proofs.Laws.Tables.{listed-all}
 use Rattle.planning.proofs.Laws.Triples.{quiet-count, quiet_triples, length_triples, triples_append}
 use Rattle.planning.specs.Numbers.{triples_of, quiet_fault}
 use Rattle.planning.specs.Plan.{All, Within}
 use Rattle.planning.specs.Quiet.{Quiet, spans_of, fits}
-use Rattle.planning.specs.Tables.{padded}
 use Rattle.planfile.specs.Bounds.{most_name_bytes}
 use Rattle.planfile.specs.FilePlan.{FilePlan, engine_names, with_quiet}
 use Rattle.planfile.proofs.Laws.Tests.{read-number-iff}
 use Rattle.planfile.specs.Numerals.{number_of}
 use Rattle.planfile.specs.Reading.{accepted, ◌>>=◌, fault, require, read_number, FourFields, place_of, read_span, read_quiet}
-use Rattle.planreader.specs.declared.numeral.Ranged.TheVariants as ranged
+use Rattle.planreader.specs.declared.FilePlan.{FilePlan as ByValue}
 use Rattle.planreader.specs.declared.quiet.Span.{Span}
-use Rattle.planreader.specs.declared.quiet.Span.TheVariants as span
 use Rattle.planreader.specs.Columns.{quiet_column_of}
-use Rattle.planreader.specs.Items.{three_fields}
-use Rattle.planreader.specs.Laws.Columns.{padded-set}
-use Rattle.planreader.specs.Laws.Names.{same-lengths, names-count}
+use Rattle.planreader.specs.Items.{place_among, three_fields}
+use Rattle.planreader.specs.Laws.Names.{same-lengths, placed-none, placed-some}
+use Rattle.planreader.specs.Laws.Padding.{padded-set}
 use Rattle.planreader.specs.Laws.Parts.{by_ranged, read-by-ranged}
-use Rattle.planreader.specs.Parts.{ranged_of, NameFor}
-use Rattle.planreader.specs.Plans.{name_at, name_list, NamesHeld, quiet_in, QuietHeld}
-use Rattle.planreader.specs.Quiet.{QuietReads, SpanRead, with_span}
+use Rattle.planreader.specs.Fields.{NameFor}
+use Rattle.planreader.specs.Parts.{ranged_of}
+use Rattle.planreader.specs.Plans.{names_in, quiet_in, QuietHeld}
+use Rattle.planreader.specs.Quiet.{quiet_by, QuietReads, SpanRead, AddsQuiet, with_span}
 use Rattle.planreader.specs.Records.{SpansIn}
 
 -- ---- the checks
 
-module _ (engines : ℕ) (names sizes : List ℕ) (quiet : List Quiet) (x : FourFields) where
-  abbrev place : ℕ
-  place = place_of x.second (name_list engines names sizes)
-
-  pub quiet-unknown : engines ≤ place → SpanRead engines names sizes quiet x (span.Fault UnknownEngine)
+module _ (names : List (List ℕ)) (quiet : List Quiet) (x : FourFields) where
+  pub quiet-unknown : place_among x.second names ≡ None → SpanRead names quiet x (Err UnknownEngine)
   unfolding SpanRead read_quiet ◌>>=◌ require fault
-  quiet-unknown l f p q r = rw (p, le-ltb place (length (name_list engines names sizes)) (omega (arith, names-count engines names sizes)))
+  quiet-unknown e f p q r = rw (p, le-ltb (place_of x.second names) (length names) (placed-none x.second names e))
 
-  module _ (below : place < engines) where
-    listed : place < length (name_list engines names sizes)
-    listed = omega (arith, names-count engines names sizes)
+  module _ (place : ℕ) (known : place_among x.second names ≡ Some place) where
+    below : place_of x.second names < length names
+    below = omega (arith, placed-some x.second names known)
 
-    pub quiet-from : ranged_of 0 most_minutes x.third ≡ ranged.Fault → SpanRead engines names sizes quiet x (span.Fault Value)
+    pub quiet-from : ranged_of 0 most_minutes x.third ≡ None → SpanRead names quiet x (Err Value)
     unfolding SpanRead read_quiet read_span ◌>>=◌ require fault by_ranged
-    quiet-from e f p q r = rw (p, lt-ltb place _ listed, read-by-ranged 0 most_minutes r x.third, e)
+    quiet-from e f p q r = rw (p, lt-ltb (place_of x.second names) _ below, read-by-ranged 0 most_minutes r x.third, e)
 
-    module _ (from : ℕ) (third : ranged_of 0 most_minutes x.third ≡ ranged.Value from) where
-      pub quiet-to : ranged_of 0 most_minutes x.fourth ≡ ranged.Fault → SpanRead engines names sizes quiet x (span.Fault Value)
+    module _ (from : ℕ) (third : ranged_of 0 most_minutes x.third ≡ Some from) where
+      pub quiet-to : ranged_of 0 most_minutes x.fourth ≡ None → SpanRead names quiet x (Err Value)
       unfolding SpanRead read_quiet read_span ◌>>=◌ require fault by_ranged
       quiet-to e f p q r =
-          rw (p, lt-ltb place _ listed, read-by-ranged 0 most_minutes r x.third, third, read-by-ranged 0 most_minutes r x.fourth, e)
+          rw (
+            p,
+            lt-ltb (place_of x.second names) _ below,
+            read-by-ranged 0 most_minutes r x.third,
+            third,
+            read-by-ranged 0 most_minutes r x.fourth,
+            e,
+          )
 
-      module _ (to : ℕ) (fourth : ranged_of 0 most_minutes x.fourth ≡ ranged.Value to) (engine : ℕ) (is : suc place ≡ engine) where
+      module _ (to : ℕ) (fourth : ranged_of 0 most_minutes x.fourth ≡ Some to) (engine : ℕ) (is : suc place ≡ engine) where
+        abbrev span : Span
+        span = record { engine = engine; from = from; to = to }
+
         -- all fields are read: 11 is left
-        tested : (fit : Bool) → fits (record { from = from; to = to }) (spans_of engine quiet) ≡ fit
-            → QuietReads (name_list engines names sizes) quiet x (λ f r. do
+        tested : (fit : Bool) → fits (quiet_by span).span (spans_of engine quiet) ≡ fit
+            → QuietReads names quiet x (λ f r. do
               _ ← require fit QuietSpan r
-              accepted (with_quiet f (record { engine = engine; span = record { from = from; to = to } })))
+              accepted (with_quiet f (quiet_by span)))
         unfolding read_quiet read_span ◌>>=◌ require fault by_ranged
         tested fit e f p q r =
             rw (
               p,
               q,
-              lt-ltb place _ listed,
+              lt-ltb (place_of x.second names) _ below,
               read-by-ranged 0 most_minutes r x.third,
               third,
               read-by-ranged 0 most_minutes r x.fourth,
               fourth,
+              (placed-some x.second names known).0,
               is,
               e,
             )
 
-        pub quiet-span : fits (record { from = from; to = to }) (spans_of engine quiet) ≡ false → SpanRead engines names sizes quiet x (span.Fault QuietSpan)
+        pub quiet-span : fits (quiet_by span).span (spans_of engine quiet) ≡ false → SpanRead names quiet x (Err QuietSpan)
         unfolding SpanRead ◌>>=◌ require fault
         quiet-span e = tested false e
 
-        pub quiet_read : fits (record { from = from; to = to }) (spans_of engine quiet) ≡ true → SpanRead engines names sizes quiet x (span.Quiet engine from to)
+        pub quiet_read : fits (quiet_by span).span (spans_of engine quiet) ≡ true → SpanRead names quiet x (Ok span)
         unfolding SpanRead ◌>>=◌ require by_ranged quiet_fault
         quiet_read e =
-            let in-range : (text : List ℕ) (n : ℕ) → ranged_of 0 most_minutes text ≡ ranged.Value n → Within 0 most_minutes n = λ text n told.
+            let in-range : (text : List ℕ) (n : ℕ) → ranged_of 0 most_minutes text ≡ Some n → Within 0 most_minutes n = λ text n told.
             ((read-number-iff 0 most_minutes 0 text n).0 (read-by-ranged 0 most_minutes 0 text ∙ ap (by_ranged 0) told)).1 in
-            let known : Within 1 engines engine = record { least = omega (arith, is); most = omega (arith, is) } in
-            (simp (then-iff, check-iff, within-iff) (in-range x.third from third, (in-range x.fourth to fourth, (known, e))), tested true e)
+            let known_engine : Within 1 (length names) engine = record { least = omega arith; most = omega (arith, placed-some x.second names known) } in
+            (simp (then-iff, check-iff, within-iff) (in-range x.third from third, (in-range x.fourth to fourth, (known_engine, e))), tested true e)
 
 -- ---- by the texts in the file
 
@@ -110,23 +117,27 @@ name-placed {value} {name} f names short = go (le-or-lt (length value) most_name
     go (inl l) = rw (f.short l)
     go (inr l) = long-placed name names (f.long l) short ∙ sym (long-placed value names l short)
 
--- the names in columns are no longer than a name may be
-names-short : (n : ℕ) (names sizes : List ℕ) → NamesHeld n names sizes → All (λ (other : List ℕ). length other ≤ most_name_bytes) (name_list n names sizes)
-unfolding name_list name_at
-names-short n names sizes held = listed-all _ n _ (λ k l. simp length-take (omega (arith, held.short k l)))
-
 -- the reading by the name's text and by what stands inside two fields is that by their values
-module _ (engines : ℕ) (names sizes : List ℕ) (quiet : List Quiet) (x : FourFields) (name third fourth : List ℕ) (held : NamesHeld engines names sizes)
-    (named : NameFor x.second name) (p : number_of third ≡ number_of x.third) (q : number_of fourth ≡ number_of x.fourth) where
-  same_reading : (f : FilePlan) → engine_names f ≡ name_list engines names sizes → (r : ℕ)
-      → read_quiet f r (three_fields name third fourth) ≡ read_quiet f r x
+module _ (names : List (List ℕ)) (quiet : List Quiet) (x : FourFields) (name third fourth : List ℕ)
+    (short : All (λ (other : List ℕ). length other ≤ most_name_bytes) names) (named : NameFor x.second name)
+    (p : number_of third ≡ number_of x.third) (q : number_of fourth ≡ number_of x.fourth) where
+  same_reading : (f : FilePlan) → engine_names f ≡ names → (r : ℕ) → read_quiet f r (three_fields name third fourth) ≡ read_quiet f r x
   unfolding read_quiet read_span read_number
-  same_reading f is r = rw (is, name-placed named _ (names-short engines names sizes held), p, q)
+  same_reading f is r = rw (is, name-placed named names short, p, q)
 
-  pub span-parts : (r : Span) → SpanRead engines names sizes quiet (three_fields name third fourth) r → SpanRead engines names sizes quiet x r
+  span-value : (how : Result Span Fault) → SpanRead names quiet (three_fields name third fourth) how → SpanRead names quiet x how
   unfolding SpanRead
-  span-parts (span.Quiet engine from to) h = (h.0, λ f is so_far r. sym (same_reading f is r) ∙ h.1 f is so_far r)
-  span-parts (span.Fault what) h = λ f is so_far r. sym (same_reading f is r) ∙ h f is so_far r
+  span-value (Ok s) h = (h.0, λ f is so_far r. sym (same_reading f is r) ∙ h.1 f is so_far r)
+  span-value (Err what) h = λ f is so_far r. sym (same_reading f is r) ∙ h f is so_far r
+
+pub adds-quiet-value : (x : FourFields) (name third fourth : List ℕ) (before after : ByValue)
+    → All (λ (other : List ℕ). length other ≤ most_name_bytes) (names_in before.engines) → NameFor x.second name
+    → number_of third ≡ number_of x.third → number_of fourth ≡ number_of x.fourth
+    → (how : Result (Unit {0}) Fault) → AddsQuiet (three_fields name third fourth) before after how → AddsQuiet x before after how
+unfolding AddsQuiet
+adds-quiet-value x name third fourth before after short named p q (Ok done) (s, read, stored) =
+    (s, span-value _ _ x name third fourth short named p q (Ok s) read, stored)
+adds-quiet-value x name third fourth before after short named p q (Err what) h = span-value _ _ x name third fourth short named p q (Err what) h
 
 -- ---- the column
 
@@ -151,32 +162,37 @@ span-room {engines} {n} {column} q few held sound =
     let front = length-take-le (3 * n) column (omega (arith, held.room, held.whole)) in
     omega (arith, quiet-count (take (3 * n) column), front, more_room q few (record { known = held.known; ranges = held.ranges }) sound)
 
+-- in a plan by value
+pub span-fits : (p : ByValue) (x : FourFields) (s : Span) → p.engines.count ≤ most_engines → length (names_in p.engines) ≡ p.engines.count
+    → QuietHeld p.engines.count p.spans p.quiet → SpanRead (names_in p.engines) (quiet_in p.spans p.quiet) x (Ok s) → p.spans < most_quiet
+unfolding SpanRead
+span-fits p x s few count held read = span-room (quiet_by s) few held (rw count at read.0)
+
 -- read back
 pub quiet-back : (quiet : List Quiet) → quiet_in (length quiet) (quiet_column_of quiet) ≡ quiet
 quiet-back quiet = rw (← length_triples quiet, take-padded (3 * most_quiet) (triples_of quiet), quiet_triples quiet)
 
 -- with one span more
-column_more : (quiet : List Quiet) (n : ℕ) (q : Quiet) → n ≡ length quiet → length quiet < most_quiet
-    → with_span n q (quiet_column_of quiet) ≡ quiet_column_of (quiet ++ q ∷ [])
+column_more : (quiet : List Quiet) (n : ℕ) (s : Span) → n ≡ length quiet → length quiet < most_quiet
+    → with_span n s (quiet_column_of quiet) ≡ quiet_column_of (quiet ++ quiet_by s ∷ [])
 unfolding with_span triples_of
-column_more quiet n q count room =
+column_more quiet n s count room =
     let before = triples_of quiet in
-    let one = before ++ q.engine ∷ [] in
-    let two = one ++ q.span.from ∷ [] in
+    let one = before ++ s.engine ∷ [] in
+    let two = one ++ s.from ∷ [] in
     let size : length before ≡ 3 * n = omega (arith, length_triples quiet) in
-    let size₁ : length one ≡ 3 * n + 1 = omega (arith, length-append before (q.engine ∷ [])) in
-    let size₂ : length two ≡ 3 * n + 2 = omega (arith, length-append one (q.span.from ∷ [])) in
+    let size₁ : length one ≡ 3 * n + 1 = omega (arith, length-append before (s.engine ∷ [])) in
+    let size₂ : length two ≡ 3 * n + 2 = omega (arith, length-append one (s.from ∷ [])) in
     rw (
-      padded-set (3 * most_quiet) (3 * n) before q.engine (sym size) (omega arith),
-      padded-set (3 * most_quiet) (3 * n + 1) one q.span.from (sym size₁) (omega arith),
-      padded-set (3 * most_quiet) (3 * n + 2) two q.span.to (sym size₂) (omega arith),
-      triples_append quiet (q ∷ []),
+      padded-set (3 * most_quiet) (3 * n) before s.engine (sym size) (omega arith),
+      padded-set (3 * most_quiet) (3 * n + 1) one s.from (sym size₁) (omega arith),
+      padded-set (3 * most_quiet) (3 * n + 2) two s.to (sym size₂) (omega arith),
+      triples_append quiet (quiet_by s ∷ []),
     )
     (simp append_assoc)
 
--- a column of zeros holds nothing
-pub spans-nothing : SpansIn 0 [] 0 (replicate (3 * most_quiet) 0)
-unfolding padded triples_of
+-- an empty column holds nothing
+pub spans-nothing : SpansIn 0 [] 0 (quiet_column_of [])
 spans-nothing =
     let kept = kept-none 0 in
     record { count = refl; room = omega arith; filled = refl; known = kept.known; ranges = kept.ranges }
@@ -198,21 +214,22 @@ module _ {engines n : ℕ} {quiet : List Quiet} {column : List ℕ} (s : SpansIn
         ranges = λ i. rw spans-in (s.ranges i);
       }
 
-  -- one engine more
-  pub spans-engine : SpansIn (engines + 1) quiet n column
-  spans-engine =
-      let wider = kept_wider {more = engines + 1} (omega arith) kept in
+  -- of more engines
+  pub spans-engine : {more : ℕ} → engines ≤ more → SpansIn more quiet n column
+  spans-engine few =
+      let wider = kept_wider few kept in
       record { count = s.count; room = s.room; filled = s.filled; known = wider.known; ranges = s.ranges }
 
   -- one span more
-  pub spans-more : (q : Quiet) → engines ≤ most_engines → quiet_fault engines quiet q ≡ none → SpansIn engines (quiet ++ q ∷ []) (n + 1) (with_span n q column)
-  spans-more q few sound =
-      let all = more-kept q few kept sound in
-      let room = more_room q few kept sound in
+  pub spans-more : (s : Span) → engines ≤ most_engines → quiet_fault engines quiet (quiet_by s) ≡ none
+      → SpansIn engines (quiet ++ quiet_by s ∷ []) (n + 1) (with_span n s column)
+  spans-more one few sound =
+      let all = more-kept (quiet_by one) few kept sound in
+      let room = more_room (quiet_by one) few kept sound in
       record {
-        count = omega (arith, s.count, length-append quiet (q ∷ []));
+        count = omega (arith, s.count, length-append quiet (quiet_by one ∷ []));
         room = omega (arith, s.count);
-        filled = rw s.filled (column_more quiet n q s.count room);
+        filled = rw s.filled (column_more quiet n one s.count room);
         known = all.known;
         ranges = all.ranges;
       }

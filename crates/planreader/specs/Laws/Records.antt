@@ -1,39 +1,66 @@
--- The records of a file one after the other: what each adds to the plan so far and to the columns that hold it. Assumes nothing.
+-- The records of a file one after the other: what each adds to the plan so far and to the plan by value that holds it. Assumes nothing.
 use Rattle.std.proofs.Math.Path.{◌≡◌, refl}
-use Rattle.std.proofs.Common.{sym, ◌∙◌, arith}
-use Rattle.std.specs.Prelude.{true, false, List, [], ◌∷◌, map, ℕ, ◌+◌, get_or}
+use Rattle.std.proofs.Common.{sym, ap, ◌∙◌, arith, length-append}
+use Rattle.std.specs.Prelude.{true, false, Result, Ok, Err, List, [], ◌∷◌, map, ℕ, ◌+◌, ◌≤◌, length, get_or}
 use Rattle.std.proofs.lemmas.Simd.{map-map}
-use Rattle.std.proofs.lemmas.List.{map-append}
+use Rattle.std.proofs.lemmas.List.{length-map, map-append}
 use Rattle.rfc4180.specs.Fields.{raw_fields}
 use Rattle.rfc4180.specs.Text.{ascii}
 use Rattle.csv_fields.specs.Spans.{inside_of, holds_quote}
 use Rattle.planning.specs.declared.Fault.{Fault}
 use Rattle.planning.specs.declared.Fault.TheVariants as what
 use Rattle.planning.specs.Bounds.{most_engines, most_deliveries, most_watts, most_fuel, most_energy, most_limit}
-use Rattle.planfile.specs.FilePlan.{FilePlan, NamedEngine, NamedDelivery, engine_of, delivery_of}
+use Rattle.planfile.specs.FilePlan.{FilePlan, NamedEngine, NamedDelivery, engine_of, delivery_of, with_engine, with_quiet, with_delivery}
 use Rattle.planfile.specs.Reading.{Read, refused, accepted, ◌>>=◌, fault as fault_at, same, FourFields, fields_of, read_engine, read_quiet, read_delivery, record_by, read_record, read_records}
-use Rattle.planreader.specs.declared.items.Added.{Added}
-use Rattle.planreader.specs.declared.items.Added.TheVariants as added
-use Rattle.planreader.specs.declared.items.Kind.{Kind}
-use Rattle.planreader.specs.declared.items.Kind.TheVariants as kinds
+use Rattle.planreader.specs.declared.FilePlan.{FilePlan as ByValue}
+use Rattle.planreader.specs.declared.items.Items.{Items}
 use Rattle.planreader.specs.declared.items.Rule.{Rule}
-use Rattle.planreader.specs.Columns.{Item, Columns, engine_item, delivery_item}
+use Rattle.planreader.specs.Columns.{Item, engine_item, delivery_item}
 use Rattle.planreader.specs.Items.{Adds}
-use Rattle.planreader.specs.Laws.Columns.{filled-names}
-use Rattle.planreader.specs.Laws.Items.{Joined, item_faulty, item_joined}
-use Rattle.planreader.specs.Laws.Quiet.{spans-in, spans-engine, spans-more}
+use Rattle.planreader.specs.Laws.Columns.{filled-count, filled-names}
+use Rattle.planreader.specs.Laws.Items.{item_faulty, item_joined}
+use Rattle.planreader.specs.Laws.Quiet.{spans-in, spans-held, spans-engine, spans-more}
 use Rattle.planreader.specs.Laws.Words.{word_same}
 use Rattle.planreader.specs.Parts.{Valued}
-use Rattle.planreader.specs.Plans.{name_list}
-use Rattle.planreader.specs.Quiet.{SpanRead, AddsQuiet}
-use Rattle.planreader.specs.Records.{EnginesIn, read_text, AddsBehind, AddsRecord}
+use Rattle.planreader.specs.Plans.{names_in, QuietHeld}
+use Rattle.planreader.specs.Quiet.{quiet_by, SpanRead, plan_with_span, AddsQuiet}
+use Rattle.planreader.specs.Records.{EnginesIn, PlanIn, read_text, AddsBehind, AddsRecord}
 
 -- the rules of the two kinds
 abbrev pub engine_rule : Rule
-engine_rule = record { kind = kinds.Engine; most = most_engines; low = 0; high = most_watts; low2 = 0; high2 = most_fuel }
+engine_rule = record { low = 0; high = most_watts; low2 = 0; high2 = most_fuel }
 
 abbrev pub delivery_rule : Rule
-delivery_rule = record { kind = kinds.Delivery; most = most_deliveries; low = 1; high = most_energy; low2 = 1; high2 = most_limit }
+delivery_rule = record { low = 1; high = most_energy; low2 = 1; high2 = most_limit }
+
+-- a plan by value with other engines or deliveries
+abbrev pub with_engines : Items most_engines → ByValue → ByValue
+with_engines e p =
+    record {
+      mode = p.mode;
+      minutes = p.minutes;
+      allowance = p.allowance;
+      engines = e;
+      spans = p.spans;
+      quiet = p.quiet;
+      deliveries = p.deliveries;
+    }
+
+abbrev pub with_deliveries : Items most_deliveries → ByValue → ByValue
+with_deliveries d p =
+    record {
+      mode = p.mode;
+      minutes = p.minutes;
+      allowance = p.allowance;
+      engines = p.engines;
+      spans = p.spans;
+      quiet = p.quiet;
+      deliveries = d;
+    }
+
+-- the quiet spans of a plan so far, by how many engines there are
+pub plan-held : {f : FilePlan} {p : ByValue} → PlanIn f p → QuietHeld p.engines.count p.spans p.quiet
+plan-held {f} {p} held = spans-held (spans-engine held.spans (omega (arith, filled-count held.engines, length-map f.engines engine_item)))
 
 -- ---- one record
 
@@ -43,10 +70,9 @@ module _ (text : List ℕ) (what : Fault) (h : (r : ℕ) → fields_of r text �
   unfolding read_text ◌>>=◌ fault_at
   text_faulty f r = rw (h r)
 
-  pub record_faulty : (engines spans deliveries : ℕ) (e e' d d' : Columns) (q q' : List ℕ)
-      → AddsRecord text engines spans deliveries e q d e' q' d' (added.Fault what)
+  pub record_faulty : (before after : ByValue) → AddsRecord text before after (Err what)
   unfolding AddsRecord AddsBehind
-  record_faulty engines spans deliveries e e' d d' q q' es qs ds in_e in-q in-d mode minutes allowance r = text_faulty _ r
+  record_faulty before after f held r = text_faulty f r
 
 -- the names of the items of engines are the engines', and with one more
 engine-names : (es : List NamedEngine) → map (λ (i : Item). i.name) (map engine_item es) ≡ map (λ (e : NamedEngine). e.name) es
@@ -56,8 +82,8 @@ delivery-names : (ds : List NamedDelivery) → map (λ (i : Item). i.name) (map 
 delivery-names ds = map-map (λ (i : Item). i.name) delivery_item ds
 
 -- the names in the columns that hold engines
-names_in : (es : List NamedEngine) {n : ℕ} {e : Columns} → EnginesIn es n e → name_list n e.names e.sizes ≡ map (λ (e : NamedEngine). e.name) es
-names_in es in_e = filled-names in_e ∙ engine-names es
+names_of : (es : List NamedEngine) {e : Items most_engines} → EnginesIn es e → names_in e ≡ map (λ (e : NamedEngine). e.name) es
+names_of es in_e = filled-names in_e ∙ engine-names es
 
 module _ {text : List ℕ} {x : FourFields} (v : Valued text x) (kind : List ℕ) (inside : kind ≡ inside_of (get_or (raw_fields text) 0 [])) where
   text-read : (f : FilePlan) (r : ℕ) → read_text f r text ≡ read_record f r x
@@ -80,29 +106,32 @@ module _ {text : List ℕ} {x : FourFields} (v : Valued text x) (kind : List ℕ
   unfolding ascii holds_quote
   is-delivery = word_of (ascii "delivery") refl
 
-  module _ (engines spans deliveries : ℕ) (e d : Columns) (q : List ℕ) where
+  module _ (p : ByValue) where
     -- an engine
     module _ (word : true ≡ same kind (ascii "engine")) where
       engine-read : (f : FilePlan) (r : ℕ) → read_text f r text ≡ read_engine f r x
       unfolding read_record record_by
       engine-read f r = text-read f r ∙ rw (← is-engine, ← word)
 
-      pub record_engine : (e' : Columns) (how : Added) → Adds engine_rule engines x e e' how → AddsRecord text engines spans deliveries e q d e' q d how
+      pub record_engine : (e : Items most_engines) (how : Result (Unit {0}) Fault) → Adds engine_rule x p.engines e how
+          → AddsRecord text p (with_engines e p) how
       unfolding AddsRecord AddsBehind read_engine ◌>>=◌ fault_at
-      record_engine e' (added.Fault what) h es qs ds in_e in-q in-d = λ mode minutes allowance r.
-          engine-read _ r ∙ rw (← engine-names es, item_faulty engine_rule engines x in_e e' what h r)
-      record_engine e' (added.Item one) h es qs ds in_e in-q in-d = go one (item_joined engine_rule engines x in_e e' one h)
-        where
-          go : (one : Kind) → Joined engine_rule engines x in_e e' one → AddsBehind text es qs ds engines spans deliveries e' q d (added.Item one)
-          go kinds.Engine j = (
-            engine_of x.second j.figures.first j.figures.second,
-            λ mode minutes allowance r. engine-read _ r ∙ rw (← engine-names es, j.read r),
-            rw (map-append engine_item es (engine_of x.second j.figures.first j.figures.second ∷ [])) j.filled,
-            spans-engine in-q,
-            in-d,
+      record_engine e (Err what) h f held = λ r.
+          engine-read f r ∙ rw (← engine-names f.engines, item_faulty engine_rule x held.engines e what h r)
+      record_engine e (Ok done) h f held =
+          let j = item_joined engine_rule x held.engines e h in
+          let one = engine_of x.second j.figures.first j.figures.second in (
+            with_engine f one,
+            λ r. engine-read f r ∙ rw (← engine-names f.engines, j.read r),
+            record {
+              mode = held.mode;
+              minutes = held.minutes;
+              allowance = held.allowance;
+              engines = rw (map-append engine_item f.engines (one ∷ [])) j.filled;
+              spans = spans-engine held.spans (omega (arith, length-append f.engines (one ∷ [])));
+              deliveries = held.deliveries;
+            },
           )
-          go kinds.Quiet j = let z : ◌≡◌ {A = ℕ} 0 1 = cc j.is in absurd (omega arith)
-          go kinds.Delivery j = let z : ◌≡◌ {A = ℕ} 0 1 = cc j.is in absurd (omega arith)
 
     module _ (other : false ≡ same kind (ascii "engine")) where
       -- a quiet span
@@ -111,23 +140,25 @@ module _ {text : List ℕ} {x : FourFields} (v : Valued text x) (kind : List ℕ
         unfolding read_record record_by
         quiet_read f r = text-read f r ∙ rw (← is-engine, ← other, ← is-quiet, ← word)
 
-        pub record_quiet : (q' : List ℕ) (how : Added) → AddsQuiet engines e.names e.sizes spans x q q' how
-            → AddsRecord text engines spans deliveries e q d e q' d how
-        unfolding AddsRecord AddsBehind AddsQuiet SpanRead
-        record_quiet q' (added.Fault what) h es qs ds in_e in-q in-d = λ mode minutes allowance r.
-            quiet_read _ r ∙ h _ (sym (names_in es in_e)) (sym (spans-in in-q)) r
-        record_quiet q' (added.Item one) (span, is, (sound, reads), stored) es qs ds in_e in-q in-d = go one is
-          where
-            go : (one : Kind) → one ≡ kinds.Quiet → AddsBehind text es qs ds engines spans deliveries e q' d (added.Item one)
-            go kinds.Quiet is = (
-              span,
-              λ mode minutes allowance r. quiet_read _ r ∙ reads _ (sym (names_in es in_e)) (sym (spans-in in-q)) r,
-              in_e,
-              rw stored (spans-more in-q span in_e.room (rw (spans-in in-q) at sound)),
-              in-d,
+        pub record_quiet : (after : ByValue) (how : Result (Unit {0}) Fault) → AddsQuiet x p after how → AddsRecord text p after how
+        unfolding AddsRecord AddsBehind AddsQuiet SpanRead plan_with_span
+        record_quiet after (Err what) h f held = λ r. quiet_read f r ∙ h f (sym (names_of f.engines held.engines)) (sym (spans-in held.spans)) r
+        record_quiet after (Ok done) (s, (sound, reads), stored) f held =
+            let engines = ap length (names_of f.engines held.engines) ∙ length-map f.engines (λ (e : NamedEngine). e.name) in
+            let few : length f.engines ≤ most_engines = omega (arith, length-map f.engines engine_item, held.engines.room) in
+            let fits = rw (engines, spans-in held.spans) at sound in (
+              with_quiet f (quiet_by s),
+              λ r. quiet_read f r ∙ reads f (sym (names_of f.engines held.engines)) (sym (spans-in held.spans)) r,
+              rw stored
+                  (record {
+                    mode = held.mode;
+                    minutes = held.minutes;
+                    allowance = held.allowance;
+                    engines = held.engines;
+                    spans = spans-more held.spans s few fits;
+                    deliveries = held.deliveries;
+                  }),
             )
-            go kinds.Engine is = let z : ◌≡◌ {A = ℕ} 0 1 = cc in absurd (omega arith)
-            go kinds.Delivery is = let z : ◌≡◌ {A = ℕ} 0 1 = cc in absurd (omega arith)
 
       module _ (another : false ≡ same kind (ascii "quiet")) where
         -- a delivery
@@ -136,30 +167,31 @@ module _ {text : List ℕ} {x : FourFields} (v : Valued text x) (kind : List ℕ
           unfolding read_record record_by
           delivery-read f r = text-read f r ∙ rw (← is-engine, ← other, ← is-quiet, ← another, ← is-delivery, ← word)
 
-          pub record_delivery : (d' : Columns) (how : Added) → Adds delivery_rule deliveries x d d' how
-              → AddsRecord text engines spans deliveries e q d e q d' how
+          pub record_delivery : (d : Items most_deliveries) (how : Result (Unit {0}) Fault) → Adds delivery_rule x p.deliveries d how
+              → AddsRecord text p (with_deliveries d p) how
           unfolding AddsRecord AddsBehind read_delivery ◌>>=◌ fault_at
-          record_delivery d' (added.Fault what) h es qs ds in_e in-q in-d = λ mode minutes allowance r.
-              delivery-read _ r ∙ rw (← delivery-names ds, item_faulty delivery_rule deliveries x in-d d' what h r)
-          record_delivery d' (added.Item one) h es qs ds in_e in-q in-d = go one (item_joined delivery_rule deliveries x in-d d' one h)
-            where
-              go : (one : Kind) → Joined delivery_rule deliveries x in-d d' one → AddsBehind text es qs ds engines spans deliveries e q d' (added.Item one)
-              go kinds.Delivery j = (
-                delivery_of x.second j.figures.first j.figures.second,
-                λ mode minutes allowance r. delivery-read _ r ∙ rw (← delivery-names ds, j.read r),
-                in_e,
-                in-q,
-                rw (map-append delivery_item ds (delivery_of x.second j.figures.first j.figures.second ∷ [])) j.filled,
+          record_delivery d (Err what) h f held = λ r.
+              delivery-read f r ∙ rw (← delivery-names f.deliveries, item_faulty delivery_rule x held.deliveries d what h r)
+          record_delivery d (Ok done) h f held =
+              let j = item_joined delivery_rule x held.deliveries d h in
+              let one = delivery_of x.second j.figures.first j.figures.second in (
+                with_delivery f one,
+                λ r. delivery-read f r ∙ rw (← delivery-names f.deliveries, j.read r),
+                record {
+                  mode = held.mode;
+                  minutes = held.minutes;
+                  allowance = held.allowance;
+                  engines = held.engines;
+                  spans = held.spans;
+                  deliveries = rw (map-append delivery_item f.deliveries (one ∷ [])) j.filled;
+                },
               )
-              go kinds.Engine j = let z : ◌≡◌ {A = ℕ} 0 1 = cc j.is in absurd (omega arith)
-              go kinds.Quiet j = let z : ◌≡◌ {A = ℕ} 0 1 = cc j.is in absurd (omega arith)
 
         -- none of them
-        pub record_unknown : (e' d' : Columns) (q' : List ℕ) → false ≡ same kind (ascii "delivery")
-            → AddsRecord text engines spans deliveries e q d e' q' d' (added.Fault what.Kind)
+        pub record_unknown : (after : ByValue) → false ≡ same kind (ascii "delivery") → AddsRecord text p after (Err what.Kind)
         unfolding AddsRecord AddsBehind read_record record_by
-        record_unknown e' d' q' last es qs ds in_e in-q in-d mode minutes allowance r =
-            text-read _ r ∙ rw (← is-engine, ← other, ← is-quiet, ← another, ← is-delivery, ← last)
+        record_unknown after last f held r =
+            text-read f r ∙ rw (← is-engine, ← other, ← is-quiet, ← another, ← is-delivery, ← last)
 
 -- ---- all records
 

@@ -1,6 +1,7 @@
 -- Numbers of an input, byte by byte, and their bounds. Assumes nothing.
 use Rattle.std.specs.Prelude.{◌≡◌, ◌⊎◌, Bool, true, false, cond, List, [], ◌∷◌, ℕ, suc, ◌+◌, ◌*◌, ◌-◌, ◌≤◌, ◌<◌, min, leb, length, drop, get_or}
-use Rattle.std.proofs.Common.{sym, ap, inl, inr, drop_of_length-le, drop-cons, leb-true}
+use Rattle.std.specs.Char.{is_ascii_digit}
+use Rattle.std.proofs.Common.{sym, ◌∙◌, ap, inl, inr, drop_of_length-le, drop-cons, leb-true}
 use Rattle.std.proofs.Math.Bool.{and-eq-true_iff}
 use Rattle.std.proofs.Math.Numerals.{add-one}
 use native.Mathlib.Omega.{arith}
@@ -16,6 +17,11 @@ unfolding is_digit
 digit_range b e =
     let both = (and-eq-true_iff (leb digit_zero b) (leb b digit_nine)).0 e in
     (leb-true digit_zero b both.0, leb-true b digit_nine both.1)
+
+-- std's digits are these
+pub ascii_digit : (b : ℕ) {found t : Bool} → found ≡ t → found ≡ is_ascii_digit b → is_digit b ≡ t
+unfolding is_digit
+ascii_digit b e is = sym is ∙ e
 
 -- ---- the bytes before a number
 

@@ -1,11 +1,11 @@
 -- Lists of numbers place by place. Assumes nothing.
-use Rattle.std.specs.Prelude.{◌≡◌, refl, true, false, List, [], ◌∷◌, ◌++◌, ℕ, suc, ◌+◌, ◌≤◌, ◌<◌, eqb, length, drop, get_or}
+use Rattle.std.specs.Prelude.{◌≡◌, refl, true, false, List, [], ◌∷◌, ◌++◌, ℕ, ◌+◌, ◌≤◌, ◌<◌, Bool, cond, not, suc, ◌==◌, eqb, length, drop, get_or, Result, Ok, Err}
+use Rattle.std.proofs.lemmas.List.Recursion.{is_count_by}
 use Rattle.std.proofs.Common.{sym, ◌∙◌, add-zero, arith, drop_of_length-le, drop-cons}
 use Rattle.std.proofs.Math.Numerals.{add-one}
 use borrow.Author.Tests.{eq-eqb, ne_eqb, le-leb, lt-leb}
 use Rattle.rfc4180.specs.Text.{ascii}
-use Rattle.lines.specs.declared.Wrote.{Wrote}
-use Rattle.lines.specs.declared.Wrote.TheVariants.{Next, Refused, TooLong}
+use Rattle.lines.specs.declared.WriteError.{WriteError}
 use Rattle.lines.specs.Putting.{Text, plain, number, Output, output, put, put_all, Puts}
 use Rattle.lines.specs.Laws.Putting.{put-stopped, put-fits, put-none, next-inside, then}
 use Rattle.report.specs.Numbers.{starts_with, run_texts, texts_behind, other_count}
@@ -13,13 +13,12 @@ use Rattle.report.specs.Numbers.{starts_with, run_texts, texts_behind, other_cou
 -- ---- texts
 
 -- no bytes behind a text change nothing
-empty-put : (o : Output) → ((to : ℕ) → o.next ≡ Next to → to ≤ length o.bytes) → put (plain []) o ≡ o
+empty-put : (o : Output) → ((to : ℕ) → o.next ≡ Ok to → to ≤ length o.bytes) → put (plain []) o ≡ o
 empty-put o inside = go o.next o.bytes inside
   where
-    go : (next : Wrote) (bytes : List ℕ) → ((to : ℕ) → next ≡ Next to → to ≤ length bytes) → put (plain []) (output next bytes) ≡ output next bytes
-    go (Next at) bytes inside = put-fits at [] bytes (omega (arith, inside at refl)) ∙ rw (add-zero at, put-none at bytes)
-    go Refused bytes inside = put-stopped (plain []) Refused bytes (λ at e. let z : ◌≡◌ {A = ℕ} 0 1 = cc in omega arith)
-    go TooLong bytes inside = put-stopped (plain []) TooLong bytes (λ at e. let z : ◌≡◌ {A = ℕ} 0 1 = cc in omega arith)
+    go : (next : Result ℕ WriteError) (bytes : List ℕ) → ((to : ℕ) → next ≡ Ok to → to ≤ length bytes) → put (plain []) (output next bytes) ≡ output next bytes
+    go (Ok at) bytes inside = put-fits at [] bytes (omega (arith, inside at refl)) ∙ rw (add-zero at, put-none at bytes)
+    go (Err error) bytes inside = put-stopped (plain []) error bytes
 
 pub nothing-behind : {text : Text} {before after : Output} → Puts (text ∷ plain [] ∷ []) before after → Puts (text ∷ []) before after
 unfolding put_all
@@ -66,16 +65,33 @@ module _ (list : List ℕ) (passed i : ℕ) where
 
 -- ---- other numbers
 
+-- one by one
+unfoldable count : (n : ℕ) → List ℕ → ℕ
+count n [] = 0
+count n (m ∷ list) = cond (eqb m n) (count n list) (suc (count n list))
+
+counted : (n : ℕ) (list : List ℕ) → count n list ≡ other_count n list
+unfolding count
+counted n = is_count_by (count n) (λ m. not (m == n)) refl (λ m list. go (count n list) (eqb m n))
+  where
+    go : (k : ℕ) (t : Bool) → cond t k (suc k) ≡ cond (not t) (1 + k) k
+    go k true = refl
+    go k false = omega arith
+
 module _ (n : ℕ) (list : List ℕ) (i : ℕ) where
   pub others-end : length list ≤ i → other_count n (drop i list) ≡ 0
-  unfolding other_count
   others-end past = rw (drop_of_length-le list {i = i} past)
 
   module _ (inside : i < length list) where
     pub others_same : get_or list i 0 ≡ n → other_count n (drop i list) ≡ other_count n (drop (i + 1) list)
-    unfolding other_count
-    others_same e = rw (drop-cons list i 0 inside, eq-eqb (get_or list i 0) n e, add-one i)
+    unfolding count
+    others_same e =
+        sym (counted n (drop i list))
+        ∙ rw (drop-cons list i 0 inside, eq-eqb (get_or list i 0) n e, add-one i) (counted n (drop (suc i) list))
 
     pub others-one : (get_or list i 0 ≡ n → ⊥) → other_count n (drop i list) ≡ other_count n (drop (i + 1) list) + 1
-    unfolding other_count
-    others-one other = rw (drop-cons list i 0 inside, ne_eqb (get_or list i 0) n other, add-one i) (sym (add-one (other_count n (drop (suc i) list))))
+    unfolding count
+    others-one other =
+        sym (counted n (drop i list))
+        ∙ rw (drop-cons list i 0 inside, ne_eqb (get_or list i 0) n other, add-one i)
+        (omega (arith, counted n (drop (suc i) list)))

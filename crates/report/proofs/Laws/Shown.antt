@@ -1,14 +1,14 @@
 -- How each byte is shown, and bytes from a place on. Assumes nothing.
-use Rattle.std.specs.Prelude.{◌≡◌, ◌≢◌, ◌⊎◌, Bool, ◌&&◌, List, [], ◌∷◌, ◌++◌, ℕ, ◌+◌, ◌≤◌, ◌<◌, leb, length, drop, get_or}
+use Rattle.std.specs.Prelude.{◌≡◌, ◌⊎◌, Bool, ◌&&◌, List, [], ◌∷◌, ◌++◌, ℕ, ◌+◌, ◌≤◌, ◌<◌, leb, length, drop, get_or, Some, None}
 use Rattle.std.proofs.Math.Path.{refl}
-use Rattle.std.proofs.Common.{inl, inr, drop_of_length-le, arith}
+use Rattle.std.proofs.Common.{inl, inr, drop_of_length-le}
 use Rattle.std.proofs.Math.Bool.{true, false, cond}
 use borrow.Author.Tests.{lt-ltb, le-ltb, le-leb, lt-leb, ne_eqb}
 use Rattle.rfc4180.specs.Bytes.{carriage_return, line_feed}
 use Rattle.rfc4180.proofs.Laws.Places.{bytes-from}
 use Rattle.rfc4180.specs.Text.{ascii}
 use Rattle.lines.specs.Putting.{plain}
-use Rattle.report.specs.Shown.{backslash, hex_digit, hex_escape, own_letter, escaped, closed_texts}
+use Rattle.report.specs.Shown.{backslash, hex_digit, hex_escape, own_letter, escaped_by, escaped, closed_texts}
 
 module _ (n : ℕ) where
   pub digit_small : n < 10 → hex_digit n ≡ 0x30 + n
@@ -20,28 +20,29 @@ module _ (n : ℕ) where
   digit_large h = rw (le-ltb n 10 h)
 
 -- a byte's own escape
-pub letter_none : {b : ℕ} → (b ≡ carriage_return → ⊥) → (b ≡ line_feed → ⊥) → (b ≡ backslash → ⊥) → own_letter b ≡ 0
+pub letter_none : {b : ℕ} → (b ≡ carriage_return → ⊥) → (b ≡ line_feed → ⊥) → (b ≡ backslash → ⊥) → own_letter b ≡ None
 unfolding own_letter
 letter_none {b} return feed slash = rw (ne_eqb b carriage_return return, ne_eqb b line_feed feed, ne_eqb b backslash slash)
 
 -- how a byte is shown, by the letter of its own escape
-module _ (b : ℕ) {letter : ℕ} (is : letter ≡ own_letter b) where
-  pub shown_own : letter ≢ 0 → escaped b ≡ backslash ∷ letter ∷ []
-  unfolding escaped
-  shown_own some = rw (is, lt-ltb 0 (own_letter b) (omega (arith, is, some)))
+module _ (b : ℕ) where
+  pub shown_own : {letter : ℕ} → Some letter ≡ own_letter b → escaped b ≡ backslash ∷ letter ∷ []
+  unfolding escaped escaped_by
+  shown_own is = rw (← is)
 
-  pub shown_hex : letter ≡ 0 → (b < 0x20) ⊎ (0x7E < b) → escaped b ≡ hex_escape b
-  unfolding escaped
-  shown_hex none (inl low) = rw (le-ltb 0 (own_letter b) (omega (arith, is, none)), lt-leb 0x20 b low)
-  shown_hex none (inr high) = rw (le-ltb 0 (own_letter b) (omega (arith, is, none)), lt-leb b 0x7E high) (go (leb 0x20 b))
-    where
-      go : (t : Bool) → cond (t && false) (b ∷ []) (hex_escape b) ≡ hex_escape b
-      go true = refl
-      go false = refl
+  module _ (is : None ≡ own_letter b) where
+    pub shown_hex : (b < 0x20) ⊎ (0x7E < b) → escaped b ≡ hex_escape b
+    unfolding escaped escaped_by
+    shown_hex (inl low) = rw (← is, lt-leb 0x20 b low)
+    shown_hex (inr high) = rw (← is, lt-leb b 0x7E high) (go (leb 0x20 b))
+      where
+        go : (t : Bool) → cond (t && false) (b ∷ []) (hex_escape b) ≡ hex_escape b
+        go true = refl
+        go false = refl
 
-  pub shown_itself : letter ≡ 0 → 0x20 ≤ b → b ≤ 0x7E → escaped b ≡ b ∷ []
-  unfolding escaped
-  shown_itself none above below = rw (le-ltb 0 (own_letter b) (omega (arith, is, none)), le-leb 0x20 b above, le-leb b 0x7E below)
+    pub shown_itself : 0x20 ≤ b → b ≤ 0x7E → escaped b ≡ b ∷ []
+    unfolding escaped escaped_by
+    shown_itself above below = rw (← is, le-leb 0x20 b above, le-leb b 0x7E below)
 
 -- the texts of bytes from a place on
 module _ (bytes : List ℕ) (i : ℕ) where

@@ -1,44 +1,32 @@
 -- Words with numbers among them, byte by byte. Assumes nothing.
-use Rattle.std.specs.Prelude.{◌≡◌, true, ◌&&◌, ℕ, suc, ◌+◌, ◌-◌, ◌≤◌, ◌<◌, drop, get_or}
-use Rattle.std.proofs.Math.Path.{refl}
-use Rattle.std.proofs.Math.Bool.{false, and-true, and-eq-true_iff}
+use Rattle.std.specs.Prelude.{◌≡◌, ℕ, ◌+◌, ◌≤◌, ◌<◌, drop, get_or}
 use mathlib.Core.List.{List, [], ◌∷◌, ◌++◌}
 use Rattle.std.proofs.Math.Numerals.{add-one}
-use Rattle.std.proofs.Common.{arith, drop_of_length-le, length-drop, lt-ltb, ltb-true}
-use Rattle.std.proofs.Math.Dec.{eqb, ltb}
+use Rattle.std.proofs.Common.{drop_of_length-le, eq-eqb}
+use borrow.Author.Tests.{ne_eqb}
 use Rattle.std.proofs.Math.ListN.{length}
 use Rattle.std.proofs.Math.Seq.{drop-cons}
 use Rattle.lines.specs.Putting.{plain, number}
-use Rattle.report.specs.Words.{number_sign, takes_number, word_texts}
+use Rattle.report.specs.Words.{number_sign, word_texts}
 
--- a number that is taken is there
-pub number-left : (b used count : ℕ) → takes_number b used count ≡ true → used < count
-unfolding takes_number
-number-left b used count e = ltb-true used count ((and-eq-true_iff (eqb b number_sign) (ltb used count)).0 e).1
-
-module _ (words numbers : List ℕ) (i used : ℕ) where
-  pub words_end : length words ≤ i → word_texts (drop i words) (drop used numbers) ≡ []
+-- the words from a place on
+module _ (words : List ℕ) (i : ℕ) where
+  pub words_end : (numbers : List ℕ) → length words ≤ i → word_texts (drop i words) numbers ≡ []
   unfolding word_texts
-  words_end past = rw (drop_of_length-le words {i = i} past)
+  words_end numbers past = rw (drop_of_length-le words {i = i} past)
 
   module _ (inside : i < length words) where
-    pub word_number : takes_number (get_or words i 0) used (length numbers) ≡ true → word_texts (drop i words) (drop used numbers)
-        ≡ (number (get_or numbers used 0) ∷ []) ++ word_texts (drop (i + 1) words) (drop (used + 1) numbers)
-    unfolding word_texts takes_number
-    word_number e =
-        let both = (and-eq-true_iff (eqb (get_or words i 0) number_sign) (ltb used (length numbers))).0 e in
-        rw (drop-cons words i 0 inside, drop-cons numbers used 0 (number-left (get_or words i 0) used (length numbers) e), both.0, add-one i, add-one used)
+    -- a number in the place of its sign
+    pub word_number : (n : ℕ) (numbers : List ℕ) → get_or words i 0 ≡ number_sign
+        → word_texts (drop i words) (n ∷ numbers) ≡ (number n ∷ []) ++ word_texts (drop (i + 1) words) numbers
+    unfolding word_texts
+    word_number n numbers e = rw (drop-cons words i 0 inside, eq-eqb (get_or words i 0) number_sign e, add-one i)
 
-    pub word_byte : takes_number (get_or words i 0) used (length numbers) ≡ false
-        → word_texts (drop i words) (drop used numbers) ≡ (plain (get_or words i 0 ∷ []) ∷ []) ++ word_texts (drop (i + 1) words) (drop used numbers)
-    unfolding takes_number
-    word_byte e = rw (drop-cons words i 0 inside, add-one i) (go (drop used numbers) (left-of (drop used numbers) (length-drop used numbers) e))
-      where
-        left-of : (rest : List ℕ) → length rest ≡ length numbers - used → (eqb (get_or words i 0) number_sign && ltb used (length numbers)) ≡ false
-            → 0 < length rest → eqb (get_or words i 0) number_sign ≡ false
-        left-of rest size e some = rw (lt-ltb used (length numbers) (omega arith), and-true) at e
-
-        go : (rest : List ℕ) → (0 < length rest → eqb (get_or words i 0) number_sign ≡ false)
-            → word_texts (get_or words i 0 ∷ drop (suc i) words) rest ≡ plain (get_or words i 0 ∷ []) ∷ word_texts (drop (suc i) words) rest
-        go [] other = unfold word_texts in refl
-        go (n ∷ rest) other = unfold word_texts in rw (other (omega arith))
+    -- any other byte, and a sign for which no number is left
+    pub word_byte : (numbers : List ℕ) → (get_or words i 0 ≡ number_sign → numbers ≡ [])
+        → word_texts (drop i words) numbers ≡ (plain (get_or words i 0 ∷ []) ∷ []) ++ word_texts (drop (i + 1) words) numbers
+    unfolding word_texts
+    word_byte [] other = rw (drop-cons words i 0 inside, add-one i)
+    word_byte (n ∷ numbers) other =
+        let not_sign : get_or words i 0 ≡ number_sign → ⊥ = λ e. let none = other e in cc in
+        rw (drop-cons words i 0 inside, ne_eqb (get_or words i 0) number_sign not_sign, add-one i)

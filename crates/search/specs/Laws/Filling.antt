@@ -1,92 +1,80 @@
--- What the code writes from the front of a list: zeros, straight fill's row engine by engine, and its table row by row.
+-- What the code writes from the front of a list: straight fill's row engine by engine, and its table row by row.
 -- Assumes nothing.
-use Rattle.std.specs.Prelude.{◌≡◌, refl, length, drop, set, replicate}
-use Rattle.std.proofs.Common.{ap, ◌∙◌, mul-le-mul_right, arith, length-append, length-take, take-append-drop, drop_of_length-le, take_all, length-take-le, drop-set-lt, take-suc-set, get_or-take}
+use Rattle.std.specs.Prelude.{◌≡◌, refl, length, drop, set}
+use Rattle.std.proofs.Common.{ap, ◌∙◌, mul-le-mul_right, arith, length-append, drop_of_length-le, take_all, length-take-le, drop-set-lt, take-suc-set}
 use mathlib.Core.List.{List, [], ◌∷◌, ◌++◌, append_assoc, append-nil}
 use Prim.Native.Nat.{ℕ, zero, suc, ◌+◌, ◌-◌, ◌*◌, ◌≤◌, ◌<◌, min}
-use Rattle.std.proofs.Math.Nat.{add-zero, add-suc, zero-mul, suc-mul}
+use Rattle.std.proofs.Math.Nat.{zero-mul, suc-mul}
 use Rattle.std.proofs.Math.Numerals.{add-one}
 use Rattle.std.proofs.Math.ListN.{take}
-use Rattle.std.proofs.Math.Seq.{drop-length, drop-cons, take_at, take-set-lt}
+use Rattle.std.proofs.Math.Seq.{drop-cons, take_at}
 use Rattle.planning.proofs.Laws.Soundness.StraightFill.{drawn-length, undrawn-length}
 use Rattle.planning.specs.Tables.{listed, at}
 use Rattle.planning.specs.Search.{drawn, undrawn, straight_fill}
 
--- ---- zeros
-
-pub zeros-all : (d : List ℕ) (n : ℕ) → n ≡ length d → replicate n 0 ++ drop n d ≡ replicate (length d) 0
-zeros-all d n e = rw (e, drop-length d, append-nil)
-
 -- ---- a row
 
--- the table once a row is whole that begins at `from` and has i of its numbers, and what then remains of the engines
-unfoldable pub row_whole : (table after : List ℕ) → (from engines rest i : ℕ) → List ℕ
-row_whole table after from engines rest i =
-    take (from + i) table ++ (drawn rest (drop i (take engines after)) ++ drop (from + engines) table)
+-- the row once it is whole, of which i numbers are written, and what then remains of the engines
+unfoldable pub row_whole : (row remaining : List ℕ) → (rest i : ℕ) → List ℕ
+row_whole row remaining rest i = take i row ++ drawn rest (drop i remaining)
 
-unfoldable pub remains_whole : (after : List ℕ) → (engines rest i : ℕ) → List ℕ
-remains_whole after engines rest i = take i after ++ (undrawn rest (drop i (take engines after)) ++ drop engines after)
+unfoldable pub remains_whole : (remaining : List ℕ) → (rest i : ℕ) → List ℕ
+remains_whole remaining rest i = take i remaining ++ undrawn rest (drop i remaining)
 
--- one number more, at place a, of those before place b
-write_one : (xs ys : List ℕ) (a b v : ℕ) → a < b → b ≤ length xs
-    → take (suc a) (set xs a v) ++ (ys ++ drop b (set xs a v)) ≡ take a xs ++ ((v ∷ ys) ++ drop b xs)
-write_one xs ys a b v l m =
-    rw (take-suc-set xs a v (omega arith), drop-set-lt b xs a v l, append_assoc (take a xs) (v ∷ []) (ys ++ drop b xs))
+-- one number more
+write_one : (xs ys : List ℕ) (i v : ℕ) → i < length xs → take (suc i) (set xs i v) ++ ys ≡ take i xs ++ (v ∷ ys)
+write_one xs ys i v l = rw (take-suc-set xs i v l, append_assoc (take i xs) (v ∷ []) ys)
 
-module _ (after : List ℕ) (engines i : ℕ) (l : i < engines) where
-  -- the engines past engine i stay as they are when it is written, and are those from it on but the first
-  others-kept : (w : ℕ) → drop (suc i) (take engines (set after i w)) ≡ drop (suc i) (take engines after)
-  others-kept w = rw (take-set-lt engines after i w l, drop-set-lt (suc i) (take engines after) i w (omega arith))
-
-  from-engine : engines ≤ length after → drop i (take engines after) ≡ at after i ∷ drop (suc i) (take engines after)
-  from-engine m =
-      drop-cons (take engines after) i 0 (omega (arith, length-take engines after))
-      ∙ ap (λ c. c ∷ drop (suc i) (take engines after)) (get_or-take engines after i 0 l)
-
--- no engine is past the last
-none-past : (after : List ℕ) (engines : ℕ) → drop engines (take engines after) ≡ []
-none-past after engines = drop_of_length-le (take engines after) {i = engines} (omega (arith, length-take engines after))
-
-module _ (table after : List ℕ) (from engines rest i : ℕ) where
-  pub row-none : i ≡ 0
-      → row_whole table after from engines rest i ≡ take from table ++ (drawn rest (take engines after) ++ drop (from + engines) table)
+module _ (remaining : List ℕ) (rest i : ℕ) where
+  pub row-none : (row : List ℕ) → i ≡ 0 → row_whole row remaining rest i ≡ drawn rest remaining
   unfolding row_whole
-  row-none e = rw (e, add-zero from)
+  row-none row e = rw e
 
-  pub row_more : i < engines → engines ≤ length after → from + engines ≤ length table → (v w r : ℕ)
-      → v ≡ min rest (at after i) → r ≡ rest - at after i
-      → row_whole (set table (from + i) v) (set after i w) from engines r (i + 1) ≡ row_whole table after from engines rest i
-  unfolding row_whole drawn
-  row_more l m n v w r e f =
-      rw (e, f, add-one i, add-suc from i, others-kept after engines i l w, from-engine after engines i l m)
-      (write_one
-      table
-      (drawn (rest - at after i) (drop (suc i) (take engines after)))
-      (from + i)
-      (from + engines)
-      (min rest (at after i))
-      (omega arith)
-      n)
-
-  pub row-all : i ≡ engines → row_whole table after from engines rest i ≡ table
-  unfolding row_whole drawn
-  row-all e = rw (e, none-past after engines) (take-append-drop (from + engines) table)
-
-module _ (after : List ℕ) (engines rest i : ℕ) where
-  pub remains-none : i ≡ 0 → remains_whole after engines rest i ≡ undrawn rest (take engines after) ++ drop engines after
+  pub remains-none : i ≡ 0 → remains_whole remaining rest i ≡ undrawn rest remaining
   unfolding remains_whole
   remains-none e = rw e
 
-  pub remains-more : i < engines → engines ≤ length after → (w r : ℕ) → w ≡ at after i - rest → r ≡ rest - at after i
-      → remains_whole (set after i w) engines r (i + 1) ≡ remains_whole after engines rest i
-  unfolding remains_whole undrawn
-  remains-more l m w r e f =
-      rw (e, f, add-one i, others-kept after engines i l (at after i - rest), from-engine after engines i l m)
-      (write_one after (undrawn (rest - at after i) (drop (suc i) (take engines after))) i engines (at after i - rest) l m)
+  -- the piece is what the engine has, at most the rest
+  module _ (l : i < length remaining) (piece : ℕ) (e : piece ≡ min rest (at remaining i)) where
+    fewer : rest - piece ≡ rest - at remaining i
+    fewer = omega arith
 
-  pub remains-all : i ≡ engines → remains_whole after engines rest i ≡ after
+    less : at remaining i - piece ≡ at remaining i - rest
+    less = omega arith
+
+    pub row_more : (row : List ℕ) → i < length row
+        → row_whole (set row i piece) (set remaining i (at remaining i - piece)) (rest - piece) (i + 1) ≡ row_whole row remaining rest i
+    unfolding row_whole drawn
+    row_more row m =
+        rw (
+          fewer,
+          less,
+          add-one i,
+          drop-set-lt (suc i) remaining i (at remaining i - rest) (omega arith),
+          drop-cons remaining i 0 l,
+          e,
+        )
+        (write_one row (drawn (rest - at remaining i) (drop (suc i) remaining)) i (min rest (at remaining i)) m)
+
+    pub remains-more : remains_whole (set remaining i (at remaining i - piece)) (rest - piece) (i + 1) ≡ remains_whole remaining rest i
+    unfolding remains_whole undrawn
+    remains-more =
+        rw (
+          fewer,
+          less,
+          add-one i,
+          drop-set-lt (suc i) remaining i (at remaining i - rest) (omega arith),
+          drop-cons remaining i 0 l,
+        )
+        (write_one remaining (undrawn (rest - at remaining i) (drop (suc i) remaining)) i (at remaining i - rest) l)
+
+  pub row-all : (row : List ℕ) → length row ≤ i → length remaining ≤ i → row_whole row remaining rest i ≡ row
+  unfolding row_whole drawn
+  row-all row l m = rw (drop_of_length-le remaining {i = i} m, append-nil (take i row)) (take_all i row l)
+
+  pub remains-all : length remaining ≤ i → remains_whole remaining rest i ≡ remaining
   unfolding remains_whole undrawn
-  remains-all e = rw (e, none-past after engines) (take-append-drop engines after)
+  remains-all m = rw (drop_of_length-le remaining {i = i} m, append-nil (take i remaining)) (take_all i remaining m)
 
 -- ---- the table
 

@@ -9,6 +9,7 @@ use Rattle.planning.specs.Tables.{listed, at}
 use Rattle.planning.specs.Search.{smaller, smallest_of}
 use Rattle.search.specs.Laws.Sets.{has-zero, has-without-same, has-without-other, least-member, power_le}
 use Rattle.search.specs.Layout.{remaining_at}
+use Rattle.search.specs.Members.{IsLeast}
 use Rattle.search.specs.Sets.{has}
 
 -- ---- the set that is still to be passed
@@ -22,7 +23,7 @@ pub record Ahead (all set n : ℕ) : Type 0 where
 pub ahead-all : (all : ℕ) → Ahead all all 0
 ahead-all all = record { most = omega arith; from = λ q h. omega arith; same = λ q l. refl }
 
--- the least member of a set of k digits: the next member of the whole set, with none of it between n and there
+-- the next member of the whole set, with none of it between n and there
 pub record Next (all set n t : ℕ) : Type 0 where
   pub member : has all t ≡ true
   pub later : n ≤ t
@@ -31,41 +32,45 @@ pub record Next (all set n t : ℕ) : Type 0 where
   pub power : 2 ^ t ≤ set
   pub less : set - 2 ^ t < set
 
-pub next-member : (k all set n : ℕ) → all < 2 ^ k → set ≢ 0 → Ahead all set n → Next all set n (count_trailing_zeros k set)
-next-member k all set n s z a = go (least-member k set (omega arith) (omega (arith, a.most)))
+-- the least member, as a pass takes it
+pub next-taken : {all set n t others : ℕ} → Ahead all set n → IsLeast set t others → Next all set n t
+next-taken {all} {set} {n} {t} a taken =
+    let h = taken.member in
+    let l = a.from t h in
+    record {
+      member = sym (a.same t l) ∙ h;
+      later = l;
+      between = λ q m b. sym (a.same q m) ∙ taken.first q b;
+      ahead =
+          record {
+            most = omega (arith, a.most);
+            from = λ q g. past q g (le-or-lt (suc t) q);
+            same = λ q m. has-without-other set t q h (omega arith) ∙ a.same q (omega arith);
+          };
+      power = power_le set t h;
+      less = omega (arith, pow_pos t, power_le set t h);
+    }
   where
-    go : (count_trailing_zeros k set < k) × (has set (count_trailing_zeros k set) ≡ true) × ((j : ℕ) → j < count_trailing_zeros k set → has set j ≡ false)
-        → Next all set n (count_trailing_zeros k set)
-    go (below, h, before) =
-        let t = count_trailing_zeros k set in
-        let l = a.from t h in
-        record {
-          member = sym (a.same t l) ∙ h;
-          later = l;
-          between = λ q m b. sym (a.same q m) ∙ before q b;
-          power = power_le set t h;
-          less = omega (arith, pow_pos t, power_le set t h);
-          ahead =
-              record {
-                most = omega (arith, a.most);
-                from = λ q g. past q g (le-or-lt (suc t) q);
-                same = λ q m. has-without-other set t q h (omega arith) ∙ a.same q (omega arith);
-              };
-        }
-      where
-        past : (q : ℕ) → has (set - 2 ^ count_trailing_zeros k set) q ≡ true → (suc (count_trailing_zeros k set) ≤ q) ⊎ (q < suc (count_trailing_zeros k set))
-            → suc (count_trailing_zeros k set) ≤ q
-        past q g (inl l) = l
-        past q g (inr l) =
-            absurd
-            (at-or_else
-            (λ r. r < suc (count_trailing_zeros k set) → has (set - 2 ^ count_trailing_zeros k set) r ≡ true → ⊥)
-            (count_trailing_zeros k set)
-            (λ m f. true≢false (sym f ∙ has-without-same set (count_trailing_zeros k set) h))
-            (λ r d m f. true≢false (sym f ∙ has-without-other set (count_trailing_zeros k set) r h d ∙ before r (omega arith)))
-            q
-            l
-            g)
+    past : (q : ℕ) → has (set - 2 ^ t) q ≡ true → (suc t ≤ q) ⊎ (q < suc t) → suc t ≤ q
+    past q g (inl l) = l
+    past q g (inr l) =
+        absurd
+        (at-or_else
+        (λ r. r < suc t → has (set - 2 ^ t) r ≡ true → ⊥)
+        t
+        (λ m f. true≢false (sym f ∙ has-without-same set t taken.member))
+        (λ r d m f. true≢false (sym f ∙ has-without-other set t r taken.member d ∙ taken.first r (omega arith)))
+        q
+        l
+        g)
+
+-- of a set of k digits it is the one that the lowest bit says
+pub least-of : (k set : ℕ) → set ≢ 0 → set < 2 ^ k → IsLeast set (count_trailing_zeros k set) (set - 2 ^ count_trailing_zeros k set)
+least-of k set s l =
+    let least = least-member k set (omega arith) l in record { member = least.1; first = least.2; without = refl }
+
+pub next-member : (k all set n : ℕ) → all < 2 ^ k → set ≢ 0 → Ahead all set n → Next all set n (count_trailing_zeros k set)
+next-member k all set n s z a = next-taken a (least-of k set z (omega (arith, a.most)))
 
 -- nothing is ahead
 pub ahead_none : (all n : ℕ) → Ahead all 0 n → (q : ℕ) → n ≤ q → has all q ≡ false
@@ -134,20 +139,19 @@ pub least_start : (opened : ℕ) (amount : List ℕ) → LeastSoFar opened amoun
 unfolding smallest_of
 least_start opened amount = record { front = 0; ahead = ahead-all opened; is_least = λ engines inside. (omega arith, refl) }
 
-pub least-next : (k opened : ℕ) (amount : List ℕ) (set least : ℕ) → opened < 2 ^ k → set ≢ 0 → LeastSoFar opened amount set least → (after : ℕ)
-    → after ≡ smaller least (at amount (count_trailing_zeros k set)) → LeastSoFar opened amount (set - 2 ^ count_trailing_zeros k set) after
+pub least-next : {opened : ℕ} {amount : List ℕ} {set least i others after : ℕ} → LeastSoFar opened amount set least
+    → IsLeast set i others → after ≡ smaller least (at amount i) → LeastSoFar opened amount others after
 unfolding smallest_of
-least-next k opened amount set least s z before after e =
-    let t = count_trailing_zeros k set in
-    let next = next-member k opened set before.front s z before.ahead in
+least-next {opened} {amount} {i = i} before taken e =
+    let next = next-taken before.ahead taken in
     record {
-      front = suc t;
-      ahead = next.ahead;
+      front = suc i;
+      ahead = rw taken.without next.ahead;
       is_least = λ engines inside.
-          let l = inside t next.member in
+          let l = inside i next.member in
           let sofar = before.is_least engines inside in
-          let passed = smallest-past engines opened amount before.front t next.later (omega arith) next.between in
-          (l, rw (open_remaining engines opened amount t l next.member, passed, ← sofar.1) e);
+          let passed = smallest-past engines opened amount before.front i next.later (omega arith) next.between in
+          (l, rw (open_remaining engines opened amount i l next.member, passed, ← sofar.1) e);
     }
 
 pub least-end : (opened : ℕ) (amount : List ℕ) (set least : ℕ) → set ≡ 0 → LeastSoFar opened amount set least → (engines : ℕ)

@@ -1,5 +1,4 @@
 -- The first capacities are stored in front of zeros.
-use Rattle.std.proofs.Common.{◌-◌}
 use Rattle.std.specs.Prelude.{replicate}
 use Rattle.planning.specs.Bounds.{most_engines}
 use Rattle.planning.specs.ByValue.{engines_in}
@@ -9,6 +8,3 @@ use Rattle.allocation.proofs.capacity.capacities.Given as goal
 
 abbrev pub invariant-loop-i : goal.invariant-loop-i
 invariant-loop-i l = Stored (each_capacity (engines_in l.engines) l.minutes) (replicate most_engines 0) l.i l.out
-
-abbrev pub decreases-loop-i : goal.decreases-loop-i
-decreases-loop-i l = l.count - l.i

@@ -13,5 +13,5 @@ pub returns-then-holds : goal.returns-then-holds
 returns-then-holds c =
     reads-field _ _ (c.read_quoted.ensures ∙ sym (field-quoted _ _ (sym c.holds.ensures ∙ c.if-holds.true)))
 
-pub returns : goal.returns
-returns c = reads-field _ _ (c.read_plain.ensures ∙ sym (field_unquoted _ _ (sym c.holds.ensures ∙ c.if-holds.false)))
+pub returns-else-holds : goal.returns-else-holds
+returns-else-holds c = reads-field _ _ (c.read_plain.ensures ∙ sym (field_unquoted _ _ (sym c.holds.ensures ∙ c.if-holds.false)))

@@ -1,6 +1,8 @@
 -- Each way through the loop is one step of the reading inside quotes. Assumes nothing.
-use Rattle.std.proofs.Common.{sym, ◌∙◌}
+use Rattle.std.proofs.Common.{rules, sym, ◌∙◌}
 use Rattle.csv_fields.specs.Laws.ReaderSteps.{quoted-plain, quoted-allowed, quoted-refused, quoted-pair, quoted-closed, quoted-found, quoted-last}
+use denote.Enum.Bare.{same_true}
+use Rattle.rfc4180.specs.contracts.ByteClass.{the_type}
 use Rattle.csv_fields.proofs.reader.read_quoted.Goals as goal
 
 pub returns-then-not-holds : goal.returns-then-not-holds
@@ -20,16 +22,15 @@ loop-at-preserved-then-is_plain c =
     ∙ quoted-plain _ _ c.loop-at-test.true _ (sym c.is_plain.ensures ∙ c.if-is_plain.true)
     ∙ quoted-found _ _ _ _ c.plain_end-at.ensures
 
-pub returns-in-Refused : goal.returns-in-Refused
-returns-in-Refused c =
-    c.broken.ensures
-    ∙ sym (c.loop-at.invariant ∙ quoted-refused _ _ c.loop-at-test.true _ (sym c.class_of-class.ensures ∙ c.in-Refused.is))
+pub returns-then-eq : goal.returns-then-eq
+returns-then-eq c =
+    sym (c.loop-at.invariant ∙ quoted-refused _ _ c.loop-at-test.true _ (sym c.class_of.ensures ∙ same_true the_type (search rules) _ _ (sym c.eq.ensures ∙ c.if-eq.true)))
 
 pub loop-at-preserved : goal.loop-at-preserved
 loop-at-preserved c =
     c.loop-at.invariant
     ∙ quoted-allowed c.args.file.now c.loop-at.at c.loop-at-test.true _ c.if-b-eq34.false
-    (λ e. c.in_default.not-Refused (c.class_of-class.ensures ∙ e))
+    (λ e. search rules)
 
 pub returns : goal.returns
-returns c = c.broken-2.ensures ∙ sym (c.loop-at.invariant ∙ quoted-last _ _ _ c.loop-at-test.false)
+returns c = sym (c.loop-at.invariant ∙ quoted-last _ _ _ c.loop-at-test.false)

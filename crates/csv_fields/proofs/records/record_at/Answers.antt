@@ -19,26 +19,23 @@ returns-then-holds c =
     let at = c.find_outside-at.result in
     let file = c.args.file.now in
     let found : FoundOutside file c.loop-at.at carriage_return at = c.find_outside-at.ensures in
-    let inside = c.if-at-file.true in
+    let inside = c.if-file-at.false in
     let line-feed = sym c.holds.ensures ∙ c.if-holds.true in
     let ended = record_ended _ (drop (at + 1) file) at (found.stops inside) line-feed in
     ends_record file _ (sym (c.loop-at.invariant ∙ record_found _ _ _ found ∙ rw (bytes-from file at inside) ended))
 
-pub loop-at-preserved-then-at-file : goal.loop-at-preserved-then-at-file
-loop-at-preserved-then-at-file c =
+pub loop-at-preserved : goal.loop-at-preserved
+loop-at-preserved c =
     let at = c.find_outside-at.result in
     let file = c.args.file.now in
     let found : FoundOutside file c.loop-at.at carriage_return at = c.find_outside-at.ensures in
-    let inside = c.if-at-file.true in
+    let inside = c.if-file-at.false in
     let other = sym c.holds.ensures ∙ c.if-holds.false in
     c.loop-at.invariant
     ∙ record_found _ _ _ found
     ∙ rw (bytes-from file at inside) (cr_passed _ (drop (at + 1) file) at (found.stops inside) other)
 
-pub loop-at-preserved : goal.loop-at-preserved
-loop-at-preserved c =
+pub returns-then-file-at : goal.returns-then-file-at
+returns-then-file-at c =
     let found : FoundOutside c.args.file.now c.loop-at.at carriage_return c.find_outside-at.result = c.find_outside-at.ensures in
-    c.loop-at.invariant ∙ record_found _ _ _ found
-
-pub returns : goal.returns
-returns c = ends_record _ _ (sym (c.loop-at.invariant ∙ record_unended true _ c.loop-at.at c.loop-at-test.false))
+    ends_record _ _ (sym (c.loop-at.invariant ∙ record_found _ _ _ found ∙ record_unended true _ _ c.if-file-at.true))

@@ -1,6 +1,6 @@
--- Its comparisons are the decision by class. Assumes nothing.
-use Rattle.std.proofs.Common.{◌≡◌, ◌∙◌, ℕ, ◌≤◌, ◌<◌, Bool, leb, eqb, arith, le-leb, ne_eqb}
-use Rattle.std.proofs.Math.Bool.{not, ◌||◌}
+-- Its tests are the decision by class. Assumes nothing.
+use Rattle.std.proofs.Common.{◌≡◌, ◌∙◌, refl, sym, ℕ, ◌≤◌, ◌<◌, Bool, leb, eqb, arith, le-leb, leb-true, eq-eqb, ne_eqb}
+use Rattle.std.proofs.Math.Bool.{true, false, not, ◌&&◌, ◌||◌}
 use Rattle.std.proofs.lemmas.Bool.{lt-leb}
 use Rattle.rfc4180.specs.Bytes.{quote, comma, in_range, class_of}
 use Rattle.csv_fields.specs.Scans.{is_plain}
@@ -14,37 +14,42 @@ module _ (quoted : Bool) (x : ℕ) where
   unfolding in_range
   within low high other = rw (le-leb 0x20 x low, le-leb x 0x7E high, ne_eqb x quote other) at (plain_compared quoted x)
 
-  below : x < 0x20 → leb 0x20 x ≡ is_plain quoted (class_of x)
+  -- a quote and what is out of that range is not plain
+  beyond : (0x20 ≤ x → x ≤ 0x7E → x ≡ quote) → false ≡ is_plain quoted (class_of x)
   unfolding in_range
-  below low = rw (lt-leb 0x20 x low) (rw (lt-leb 0x20 x low) at (plain_compared quoted x))
+  beyond never = sym (go (leb 0x20 x) (leb x 0x7E) refl refl) ∙ plain_compared quoted x
+    where
+      go : (s t : Bool) → leb 0x20 x ≡ s → leb x 0x7E ≡ t → ((s && t) && not (eqb x quote) && (quoted || not (eqb x comma))) ≡ false
+      go false t p q = refl
+      go true false p q = refl
+      go true true p q = rw (eq-eqb x quote (never (leb-true 0x20 x p) (leb-true x 0x7E q)))
 
-  above : 0x20 ≤ x → 0x7E < x → leb x 0x7E ≡ is_plain quoted (class_of x)
-  unfolding in_range
-  above low high = rw (lt-leb x 0x7E high) (rw (le-leb 0x20 x low, lt-leb x 0x7E high) at (plain_compared quoted x))
+inside : (quoted : Bool) (x : ℕ) → quoted ≡ true → 0x20 ≤ x → x ≤ 0x7E → (x ≡ quote → ⊥) → quoted ≡ is_plain quoted (class_of x)
+inside quoted x e low high other = rw e (within true x low high other)
 
-  a_quote : x ≡ quote → not (eqb x quote) ≡ is_plain quoted (class_of x)
-  unfolding is_plain class_of in_range
-  a_quote e = rw e
+outside : (quoted : Bool) (x : ℕ) → quoted ≡ false → 0x20 ≤ x → x ≤ 0x7E → (x ≡ quote → ⊥) → not (eqb x comma) ≡ is_plain quoted (class_of x)
+outside quoted x e low high other = rw e (within false x low high other)
 
-pub returns-then-quoted : goal.returns-then-quoted
-returns-then-quoted c =
+pub returns-then-this-ne0 : goal.returns-then-this-ne0
+returns-then-this-ne0 g c =
     let (low, high, other) = c.if-x-ne34.true in
-    rw c.if-quoted.true (rw c.if-quoted.true at (within c.args.quoted c.args.x low high other))
+    inside _ c.args.x (rw (ne_eqb g.row.QUOTED 0 c.if-this-ne0.true)) low high other
 
-pub returns-else-quoted : goal.returns-else-quoted
-returns-else-quoted c =
+pub returns-else-this-ne0 : goal.returns-else-this-ne0
+returns-else-this-ne0 g c =
     let (low, high, other) = c.if-x-ne34.true in
-    rw c.if-quoted.false (rw c.if-quoted.false at (within c.args.quoted c.args.x low high other))
+    outside _ c.args.x (rw c.if-this-ne0.false) low high other
 
 pub returns-else-x-ne34 : goal.returns-else-x-ne34
-returns-else-x-ne34 c =
+returns-else-x-ne34 g c =
+    let never : 0x20 ≤ c.args.x → c.args.x ≤ 0x7E → c.args.x ≡ quote = λ low high. grind arith in
     elim c.if-x-ge32.branch [
       | then-x-ge32 w ↦ elim c.if-x-le126.branch [
-        | then-x-le126 v ↦ (let q : c.args.x ≡ quote = omega arith in v.t-4-is ∙ a_quote c.args.quoted c.args.x q)
-        | else-x-le126 v ↦ (let high : 0x7E < c.args.x = omega arith in v.t-4-is ∙ w.t-5-is ∙ above c.args.quoted c.args.x w.if-x-ge32.true high)
+        | then-x-le126 v ↦ (let e : c.args.x ≡ quote = omega arith in v.t-3-is ∙ rw (eq-eqb c.args.x quote e) (beyond _ _ never))
+        | else-x-le126 v ↦ (let high : 0x7E < c.args.x = omega arith in v.t-3-is ∙ w.t-4-is ∙ rw (lt-leb c.args.x 0x7E high) (beyond _ _ never))
       ]
       | else-x-ge32 w ↦ elim c.if-x-le126.branch [
         | then-x-le126 v ↦ absurd (omega arith)
-        | else-x-le126 v ↦ v.t-4-is ∙ w.t-5-is ∙ below c.args.quoted c.args.x w.if-x-ge32.false
+        | else-x-le126 v ↦ v.t-3-is ∙ w.t-4-is ∙ rw (lt-leb 0x20 c.args.x w.if-x-ge32.false) (beyond _ _ never)
       ]
     ]

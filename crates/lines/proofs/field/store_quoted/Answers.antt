@@ -49,26 +49,24 @@ module _ (value lent : List ℕ) (at : ℕ) where
 pub bounds-out-at : goal.bounds-out-at
 bounds-out-at c = place (at-start _ _ _ c.requires.0 c.requires.1)
 
-pub loop-i-init : goal.loop-i-init
-loop-i-init c = (omega arith, behind-start _ _ _ c.requires.0 c.requires.1)
+pub loop-b-init : goal.loop-b-init
+loop-b-init c = behind-start _ _ _ c.requires.0 c.requires.1
 
-pub bounds-out-to-in-loop-i : goal.bounds-out-to-in-loop-i
-bounds-out-to-in-loop-i c =
+pub bounds-out-to-in-loop-b : goal.bounds-out-to-in-loop-b
+bounds-out-to-in-loop-b c =
     elim c.if-b-eq-DOUBLED.branch [
-      | then-b-eq-DOUBLED w ↦ rw (w.out-is, w.to-is) (place (quote-twice _ _ _ _ _ _ c.loop-i-test.true c.loop-i.invariant.1 w.if-b-eq-DOUBLED.true))
-      | else-b-eq-DOUBLED w ↦ rw (w.out-is, w.to-is) (place (other_once _ _ _ _ _ _ c.loop-i-test.true c.loop-i.invariant.1 w.if-b-eq-DOUBLED.false))
+      | then-b-eq-DOUBLED w ↦ rw (w.out-is, w.to-is) (place (quote-twice _ _ _ _ _ _ c.loop-b-test.true c.loop-b.invariant w.if-b-eq-DOUBLED.true))
+      | else-b-eq-DOUBLED w ↦ rw (w.out-is, w.to-is) (place (other_once _ _ _ _ _ _ c.loop-b-test.true c.loop-b.invariant w.if-b-eq-DOUBLED.false))
     ]
 
-pub loop-i-preserved : goal.loop-i-preserved
-loop-i-preserved c = (
-  omega arith,
-  elim c.if-b-eq-DOUBLED.branch [
-    | then-b-eq-DOUBLED w ↦ rw (w.out-is, w.to-is) (one_stored (quote-twice _ _ _ _ _ _ c.loop-i-test.true c.loop-i.invariant.1 w.if-b-eq-DOUBLED.true))
-    | else-b-eq-DOUBLED w ↦ rw (w.out-is, w.to-is) (one_stored (other_once _ _ _ _ _ _ c.loop-i-test.true c.loop-i.invariant.1 w.if-b-eq-DOUBLED.false))
-  ],
-)
+pub loop-b-preserved : goal.loop-b-preserved
+loop-b-preserved c =
+    elim c.if-b-eq-DOUBLED.branch [
+      | then-b-eq-DOUBLED w ↦ rw (w.out-is, w.to-is) (one_stored (quote-twice _ _ _ _ _ _ c.loop-b-test.true c.loop-b.invariant w.if-b-eq-DOUBLED.true))
+      | else-b-eq-DOUBLED w ↦ rw (w.out-is, w.to-is) (one_stored (other_once _ _ _ _ _ _ c.loop-b-test.true c.loop-b.invariant w.if-b-eq-DOUBLED.false))
+    ]
 
 pub returns : goal.returns
 returns c =
-    all-stored _ _ _ _ _ c.requires.0 c.requires.1
-    (one_stored (before_last _ _ _ _ _ _ c.loop-i-test.false c.loop-i.invariant.1))
+    let past : length c.args.value.now ≤ c.loop-b.b-index = omega arith in
+    all-stored _ _ _ _ _ c.requires.0 c.requires.1 (one_stored (before_last _ _ _ _ _ _ past c.loop-b.invariant))

@@ -1,17 +1,18 @@
 -- `mode_of` meets its contract: word after word.
 use Rattle.rfc4180.specs.Text.{ascii}
+use Rattle.planreader.specs.Laws.Names.{compared}
 use Rattle.planreader.specs.Laws.Opening.{mode-fixed, mode-shortest, mode-neither}
 use Rattle.planreader.specs.Opening.{mode_read}
 use Rattle.planreader.proofs.opening.mode_of.Goals as goal
 
-pub returns-then-equal : goal.returns-then-equal
+pub returns-then-eq : goal.returns-then-eq
 unfolding mode_read ascii
-returns-then-equal c = mode-fixed _ c.if-equal.ensures
+returns-then-eq c = mode-fixed _ (compared _ _ (c.if-eq.ensures) c.as_slice.ensures)
 
-pub returns-then-equal-2 : goal.returns-then-equal-2
+pub returns-then-eq-2 : goal.returns-then-eq-2
 unfolding mode_read ascii
-returns-then-equal-2 c = mode-shortest _ c.if-equal.ensures c.if-equal-2.ensures
+returns-then-eq-2 c = mode-shortest _ (compared _ _ (c.if-eq.ensures) c.as_slice.ensures) (compared _ _ (c.if-eq-2.ensures) c.as_slice-else-eq.ensures)
 
-pub returns : goal.returns
+pub returns-else-eq-2 : goal.returns-else-eq-2
 unfolding mode_read ascii
-returns c = mode-neither _ c.if-equal.ensures c.if-equal-2.ensures
+returns-else-eq-2 c = mode-neither _ (compared _ _ (c.if-eq.ensures) c.as_slice.ensures) (compared _ _ (c.if-eq-2.ensures) c.as_slice-else-eq.ensures)

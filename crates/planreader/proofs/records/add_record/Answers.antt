@@ -1,32 +1,61 @@
 -- `add_record` meets its contract: by the number of fields and by the first of them.
+use Rattle.std.proofs.Common.{ap, ◌∙◌, arith}
 use Rattle.rfc4180.specs.Text.{ascii}
+use Rattle.planfile.specs.Numerals.{number_of}
+use Rattle.planreader.specs.Laws.Columns.{filled-short, filled-holding}
+use Rattle.planreader.specs.Laws.FieldNumbers.{number-inside}
 use Rattle.planreader.specs.Laws.FourFields.{cut-other, cut_four}
-use Rattle.planreader.specs.Laws.Records.{record_faulty, record_unknown, record_engine, record_quiet, record_delivery}
+use Rattle.planreader.specs.Laws.Items.{adds-value}
+use Rattle.planreader.specs.Laws.Names.{compared}
+use Rattle.planreader.specs.Laws.Quiet.{adds-quiet-value}
+use Rattle.planreader.specs.Laws.Records.{plan-held, record_faulty, record_unknown, record_engine, record_quiet, record_delivery}
 use Rattle.planreader.proofs.records.add_record.Goals as goal
 
-pub returns-then-fields-ne4 : goal.returns-then-fields-ne4
-returns-then-fields-ne4 c = record_faulty _ _ (cut-other c.requires.0 c.if-fields-ne4.true) _ _ _ _ _ _ _ _ _
+pub returns-then-entry-ne4 : goal.returns-then-entry-ne4
+returns-then-entry-ne4 c = record_faulty _ _ (cut-other c.args.entry.now.cut c.if-entry-ne4.true) _ _
 
-pub returns-then-equal : goal.returns-then-equal
-unfolding ascii
-returns-then-equal c =
-    let (x, v) = cut_four c.requires.0 c.if-fields-ne4.false in
-    record_engine v _ c.part-kind.ensures _ _ _ _ _ _ c.if-equal.ensures _ _ (c.add.ensures x v)
+pub add-requires : goal.add-requires
+add-requires c =
+    let (so_far, held) = c.requires in
+    (omega arith, (record { high = omega arith; high2 = omega arith }, (filled-holding held.engines).room))
 
-pub returns-then-equal-2 : goal.returns-then-equal-2
-unfolding ascii
-returns-then-equal-2 c =
-    let (x, v) = cut_four c.requires.0 c.if-fields-ne4.false in
-    record_quiet v _ c.part-kind.ensures _ _ _ _ _ _ c.if-equal.ensures c.if-equal-2.ensures _ _ (c.add-then-equal-2.ensures x v)
+pub add_quiet-requires : goal.add_quiet-requires
+add_quiet-requires c = let (so_far, held) = c.requires in ((filled-holding held.engines).room, plan-held held)
 
-pub returns-then-equal-3 : goal.returns-then-equal-3
-unfolding ascii
-returns-then-equal-3 c =
-    let (x, v) = cut_four c.requires.0 c.if-fields-ne4.false in
-    record_delivery v _ c.part-kind.ensures _ _ _ _ _ _ c.if-equal.ensures c.if-equal-2.ensures c.if-equal-3.ensures _ _ (c.add-then-equal-3.ensures x v)
+pub add-requires-then-eq-3 : goal.add-requires-then-eq-3
+add-requires-then-eq-3 c =
+    let (so_far, held) = c.requires in
+    (omega arith, (record { high = omega arith; high2 = omega arith }, (filled-holding held.deliveries).room))
 
-pub returns : goal.returns
+pub returns-then-eq : goal.returns-then-eq
 unfolding ascii
-returns c =
-    let (x, v) = cut_four c.requires.0 c.if-fields-ne4.false in
-    record_unknown v _ c.part-kind.ensures _ _ _ _ _ _ c.if-equal.ensures c.if-equal-2.ensures _ _ _ c.if-equal-3.ensures
+returns-then-eq c =
+    let (x, v) = cut_four c.args.entry.now.cut c.if-entry-ne4.false in
+    record_engine v _ c.part-kind.ensures _ (compared _ _ c.if-eq.ensures c.as_slice.ensures) _ _
+    (adds-value _ x _ _ _ (c.name-name.ensures _ v.second) (ap number_of c.part-third.ensures ∙ number-inside _ _ v.third)
+    (ap number_of c.part-fourth.ensures ∙ number-inside _ _ v.fourth) _ _ _ c.add.ensures)
+
+pub returns-then-eq-2 : goal.returns-then-eq-2
+unfolding ascii
+returns-then-eq-2 c =
+    let (x, v) = cut_four c.args.entry.now.cut c.if-entry-ne4.false in
+    let (so_far, held) = c.requires in
+    record_quiet v _ c.part-kind.ensures _ (compared _ _ c.if-eq.ensures c.as_slice.ensures) (compared _ _ c.if-eq-2.ensures c.as_slice-else-eq.ensures) _ _
+    (adds-quiet-value x _ _ _ _ _ (filled-short held.engines) (c.name-name.ensures _ v.second) (ap number_of c.part-third.ensures ∙ number-inside _ _ v.third)
+    (ap number_of c.part-fourth.ensures ∙ number-inside _ _ v.fourth) _ c.add_quiet.ensures)
+
+pub returns-then-eq-3 : goal.returns-then-eq-3
+unfolding ascii
+returns-then-eq-3 c =
+    let (x, v) = cut_four c.args.entry.now.cut c.if-entry-ne4.false in
+    record_delivery v _ c.part-kind.ensures _ (compared _ _ c.if-eq.ensures c.as_slice.ensures) (compared _ _ c.if-eq-2.ensures c.as_slice-else-eq.ensures)
+    (compared _ _ c.if-eq-3.ensures c.as_slice-else-eq-2.ensures) _ _
+    (adds-value _ x _ _ _ (c.name-name.ensures _ v.second) (ap number_of c.part-third.ensures ∙ number-inside _ _ v.third)
+    (ap number_of c.part-fourth.ensures ∙ number-inside _ _ v.fourth) _ _ _ c.add-then-eq-3.ensures)
+
+pub returns-else-eq-3 : goal.returns-else-eq-3
+unfolding ascii
+returns-else-eq-3 c =
+    let (x, v) = cut_four c.args.entry.now.cut c.if-entry-ne4.false in
+    record_unknown v _ c.part-kind.ensures _ (compared _ _ c.if-eq.ensures c.as_slice.ensures) (compared _ _ c.if-eq-2.ensures c.as_slice-else-eq.ensures)
+    _ (compared _ _ c.if-eq-3.ensures c.as_slice-else-eq-2.ensures)

@@ -1,5 +1,5 @@
--- The texts of the numbers from `i` on, of which the first stands `times` times before them, are left. The measure is how many numbers are.
-use Rattle.std.proofs.Common.{length, drop, ◌-◌, ◌≤◌}
+-- The texts of the numbers from `i` on, of which the first stands `times` times before them, are left.
+use Rattle.std.proofs.Common.{drop, Ok, ◌≤◌}
 use Rattle.lines.specs.Laws.Loops.{TextsLeft}
 use Rattle.lines.specs.Putting.{output}
 use Rattle.report.specs.Numbers.{texts_behind, number_texts}
@@ -7,9 +7,4 @@ use Rattle.report.proofs.numbers.write_numbers.Given as goal
 
 abbrev pub invariant-loop-i : goal.invariant-loop-i
 invariant-loop-i l =
-    (l.i ≤ length l.list)
-    × (l.times ≤ l.i)
-    × TextsLeft (texts_behind l.times (drop l.i l.list)) (output l.next l.out) (number_texts l.list) (output l.fn.to l.fn.out)
-
-abbrev pub decreases-loop-i : goal.decreases-loop-i
-decreases-loop-i l = length l.list - l.i
+    (l.times ≤ l.i) × TextsLeft (texts_behind l.times (drop l.i l.list)) (output (Ok l.to) l.out) (number_texts l.list) (output (Ok l.at) l.fn.out)

@@ -1,16 +1,25 @@
-use Rattle.std.proofs.Common.{arith}
 use Rattle.rfc4180.specs.Text.{ascii}
-use Rattle.lines.specs.Laws.Loops.{next-put, last-put}
-use Rattle.lines.specs.Laws.Putting.{then}
+use Rattle.lines.specs.Laws.Loops.{next-put, last-put, put-error}
+use Rattle.lines.specs.Laws.Putting.{then, then-error}
 use Rattle.report.specs.Shown.{shown_texts}
 use Rattle.report.proofs.Laws.Shown.{texts-from, texts-end}
 use Rattle.report.proofs.shown.write_shown.Goals as goal
 
-pub loop-i-preserved : goal.loop-i-preserved
-loop-i-preserved c = (omega arith, next-put c.loop-i.invariant.1 (texts-from _ _ c.loop-i-test.true) c.write_escaped-next.ensures)
+pub returns-in_err-to : goal.returns-in_err-to
+unfolding shown_texts ascii
+returns-in_err-to c = then-error _ c.in_err-to.ensures.puts c.from_residual.ensures.1
+
+pub returns-in_err-to-2 : goal.returns-in_err-to-2
+unfolding shown_texts ascii
+returns-in_err-to-2 c =
+    then c.in_ok-to.ensures.puts
+    (put-error _ c.loop-b.invariant (texts-from _ _ c.loop-b-test.true) c.in_err-to-2.ensures c.from_residual-in_err-to-2.ensures.1)
+
+pub loop-b-preserved : goal.loop-b-preserved
+loop-b-preserved c = next-put c.loop-b.invariant (texts-from _ _ c.loop-b-test.true) c.in_ok-to-2.ensures
 
 pub returns : goal.returns
 unfolding shown_texts ascii
 returns c =
-    let left = rw (texts-end _ _ c.loop-i-test.false) at c.loop-i.invariant.1 in
-    then c.write_bytes-next.ensures.puts (last-put left c.write_bytes.ensures.puts)
+    let left = rw (texts-end _ _ c.loop-b-test.false) at c.loop-b.invariant in
+    then c.in_ok-to.ensures.puts (last-put left c.write_bytes-2.ensures.puts)

@@ -1,14 +1,10 @@
--- The texts of the bytes from `i` on, and of the bracket that closes, are left. The measure is how many bytes are.
-use Rattle.std.proofs.Common.{length, drop, ◌-◌, ◌≤◌}
+-- The texts of the bytes from the present one on, and of the bracket that closes, are left.
+use Rattle.std.proofs.Common.{drop, Ok}
 use Rattle.lines.specs.Laws.Loops.{TextsLeft}
 use Rattle.lines.specs.Putting.{output}
 use Rattle.report.specs.Shown.{closed_texts}
 use Rattle.report.proofs.shown.write_shown.Given as goal
 
-abbrev pub invariant-loop-i : goal.invariant-loop-i
-invariant-loop-i l =
-    (l.i ≤ length l.bytes)
-    × TextsLeft (closed_texts (drop l.i l.bytes)) (output l.next l.out) (closed_texts l.bytes) (output l.initial.next l.initial.out)
-
-abbrev pub decreases-loop-i : goal.decreases-loop-i
-decreases-loop-i l = length l.bytes - l.i
+abbrev pub invariant-loop-b : goal.invariant-loop-b
+invariant-loop-b l =
+    TextsLeft (closed_texts (drop l.b-index l.bytes)) (output (Ok l.to) l.out) (closed_texts l.bytes) (output (Ok l.initial.to) l.initial.out)

@@ -1,31 +1,45 @@
--- A number that is taken is there, and any other byte is put as it is.
-use Rattle.std.proofs.Common.{◌∙◌, sym, arith}
-use Rattle.lines.specs.Laws.Loops.{next-put, last-put}
+-- A number that is taken is the first that is left, and any other byte is put as it is.
+use Rattle.std.proofs.Common.{◌≡◌, [], get_or}
+use Rattle.std.proofs.lemmas.List.{nil_from_length}
+use Rattle.lines.specs.Laws.Loops.{next-put, last-put, put-error}
 use Rattle.lines.specs.Laws.Putting.{no_text}
 use Rattle.report.proofs.Laws.Numbers.{nothing-behind}
-use Rattle.report.proofs.Laws.Words.{number-left, words_end, word_number, word_byte}
+use Rattle.report.proofs.Laws.Words.{words_end, word_number, word_byte}
+use Rattle.report.specs.Words.{number_sign}
 use Rattle.report.proofs.words.write_words.Goals as goal
+use Rattle.report.proofs.words.write_words.Goals.{in-Some+in_ok-to-in-Some, in_default+in_ok-to-in_default, in_default-via-in-Some+else-b-eq-NUMBER_SIGN, in_default-via-in_default}
 
-pub offset_bounds-numbers-used : goal.offset_bounds-numbers-used
-offset_bounds-numbers-used c = omega (arith, c.well_formed, number-left _ _ _ (sym c.takes_number.ensures ∙ c.if-takes_number.true))
+pub returns-in_err-to-in-Some : goal.returns-in_err-to-in-Some
+returns-in_err-to-in-Some c =
+    let next = word_number _ _ c.loop-b-test.true c.in-Some.n.now c.in-Some.rest.now c.if-b-eq-NUMBER_SIGN.true in
+    let left = rw c.in-Some.ensures.cases.0 at c.loop-b.invariant in
+    put-error _ left next (nothing-behind c.in_err-to-in-Some.ensures.puts) c.from_residual.ensures.1
 
-pub bounds-numbers-used : goal.bounds-numbers-used
-bounds-numbers-used c = omega (arith, number-left _ _ _ (sym c.takes_number.ensures ∙ c.if-takes_number.true))
+pub returns-in_err-to-in_default : goal.returns-in_err-to-in_default
+returns-in_err-to-in_default c =
+    let other : get_or c.args.words.now c.loop-b.b-index 0 ≡ number_sign → c.loop-b.left.now ≡ [] =
+    elim c.in_default.branch [
+      | in_default-via-in-Some+else-b-eq-NUMBER_SIGN w ↦ λ e. absurd (w.if-b-eq-NUMBER_SIGN.false e)
+      | in_default-via-in_default w ↦ λ e. nil_from_length _ w.in_default.ensures.cases
+    ] in
+    put-error _ c.loop-b.invariant (word_byte _ _ c.loop-b-test.true _ other) c.in_err-to-in_default.ensures.puts
+    c.from_residual-in_err-to-in_default.ensures.1
 
-pub overflow_add-used : goal.overflow_add-used
-overflow_add-used c = omega (arith, c.well_formed, number-left _ _ _ (sym c.takes_number.ensures ∙ c.if-takes_number.true))
-
-pub loop-i-preserved-then-takes_number : goal.loop-i-preserved-then-takes_number
-loop-i-preserved-then-takes_number c =
-    let next = word_number c.args.words.now c.args.numbers.now c.loop-i.i c.loop-i.used c.loop-i-test.true (sym c.takes_number.ensures ∙ c.if-takes_number.true) in
-    (omega arith, next-put c.loop-i.invariant.1 next (nothing-behind c.write_number-next.ensures.puts))
-
-pub loop-i-preserved : goal.loop-i-preserved
-loop-i-preserved c =
-    let next = word_byte c.args.words.now c.args.numbers.now c.loop-i.i c.loop-i.used c.loop-i-test.true (sym c.takes_number.ensures ∙ c.if-takes_number.false) in
-    (omega arith, next-put c.loop-i.invariant.1 next c.write_bytes-next.ensures.puts)
+pub loop-b-preserved : goal.loop-b-preserved
+loop-b-preserved c =
+    elim c.match-split_first.branch [
+      | in-Some+in_ok-to-in-Some w ↦
+          let next = word_number _ _ c.loop-b-test.true w.in-Some.n.now w.in-Some.rest.now w.if-b-eq-NUMBER_SIGN.true in
+          let left = rw w.in-Some.ensures.cases.0 at c.loop-b.invariant in
+          rw (w.out-is, w.to-is, w.left-is) (next-put left next (nothing-behind w.in_ok-to-in-Some.ensures.puts))
+      | in_default+in_ok-to-in_default w ↦
+          let other : get_or c.args.words.now c.loop-b.b-index 0 ≡ number_sign → c.loop-b.left.now ≡ [] =
+          elim w.in_default.branch [
+            | in_default-via-in-Some+else-b-eq-NUMBER_SIGN w' ↦ λ e. absurd (w'.if-b-eq-NUMBER_SIGN.false e)
+            | in_default-via-in_default w' ↦ λ e. nil_from_length _ w'.in_default.ensures.cases
+          ] in
+          rw (w.out-is, w.to-is, w.left-is) (next-put c.loop-b.invariant (word_byte _ _ c.loop-b-test.true _ other) w.in_ok-to-in_default.ensures.puts)
+    ]
 
 pub returns : goal.returns
-returns c =
-    let none = words_end c.args.words.now c.args.numbers.now c.loop-i.i c.loop-i.used c.loop-i-test.false in
-    last-put (rw none at c.loop-i.invariant.1) no_text
+returns c = last-put (rw (words_end _ _ _ c.loop-b-test.false) at c.loop-b.invariant) no_text

@@ -1,96 +1,81 @@
 -- The turn is the step of document 01 by the choice, and its delivery is one left.
-use Rattle.std.proofs.Common.{◌≡◌, ◌≢◌, false, Bool, List, ℕ, ◌+◌, ◌≤◌, eqb, sym, ◌∙◌, eqb-true, le-leb, arith}
+use Rattle.std.proofs.Common.{◌≡◌, false, Bool, List, ℕ, ◌+◌, ◌≤◌, eqb, sym, ◌∙◌, eqb-true, le-leb, arith, Some}
 use Rattle.std.proofs.lemmas.Bool.{eqb-false, lt-leb}
 use Rattle.std.specs.Int.Count.{ones}
-use Rattle.planning.specs.Bounds.{most_limit}
-use Rattle.planning.specs.Plan.{Within}
 use Rattle.planning.specs.Search.{step_by}
 use Rattle.search.specs.declared.choice.Candidate.{Candidate}
 use Rattle.search.specs.declared.state.State.{State}
-use Rattle.search.specs.Laws.Choice.{IsLeft, bulkiest-left, one-more-chosen, delivery-limit, left-picked, step-none, step-some}
+use Rattle.search.specs.Laws.Choice.{bulkiest-left, one-more-chosen, delivery-limit, step-none, step-some}
 use Rattle.search.specs.Layout.{Kept}
-use Rattle.search.specs.Steps.{no_row, IsBulkiest, PickOf, step_of_turn}
+use Rattle.search.specs.Steps.{IsBulkiest, PickOf, step_of_turn}
 use Rattle.search.proofs.choice.next_turn.Goals as goal
 
 -- the delivery chosen, where there is one
-module _ {energy limit : List ℕ} {s : State} (kept : Kept energy limit s) (best : Candidate) (is_best : IsBulkiest energy limit s best) (some : best.row ≢ no_row) where
-  chosen_left : IsLeft energy limit s best
-  chosen_left = bulkiest-left kept best is_best some
-
-  limit_range : Within 1 most_limit best.limit
-  limit_range = delivery-limit kept chosen_left.is_left chosen_left.delivery
-
+module _ {energy limit : List ℕ} {s : State} (kept : Kept energy limit s) (best : Candidate) (is_best : IsBulkiest energy limit s (Some best)) where
   -- the comparison with LIMIT tells whether the limit that is left is 1
   compared : (told : Bool) → told ≡ eqb (ones best.served + 1) best.most → eqb best.limit 1 ≡ told
-  compared told e = sym (e ∙ one-more-chosen kept best is_best some)
+  compared told e = sym (e ∙ one-more-chosen kept best is_best)
+
+  limit_some : 1 ≤ best.limit
+  limit_some = (delivery-limit kept (bulkiest-left kept best is_best)).least
 
   -- and else it is 2 or more
   several : eqb best.limit 1 ≡ false → 2 ≤ best.limit
-  several e = let other : best.limit ≡ 1 → ⊥ = eqb-false best.limit 1 e in omega (arith, limit_range.least)
+  several e = let other : best.limit ≡ 1 → ⊥ = eqb-false best.limit 1 e in omega (arith, limit_some)
 
-pub returns-then-best-eq-NO_ROW : goal.returns-then-best-eq-NO_ROW
-unfolding PickOf step_of_turn step_by
-returns-then-best-eq-NO_ROW c =
+pub returns-in_default : goal.returns-in_default
+unfolding PickOf step_of_turn
+returns-in_default c =
     record {
       picked = tt;
-      step = λ engines deliveries sized.
-          sym (step-none c.requires c.bulkiest-best.result c.bulkiest-best.ensures engines deliveries sized c.if-best-eq-NO_ROW.true);
+      step = λ engines deliveries sized. sym (step-none c.requires c.in_default.ensures engines deliveries sized);
     }
 
 pub returns-then-one_more_is_limit : goal.returns-then-one_more_is_limit
 unfolding PickOf step_of_turn step_by
 returns-then-one_more_is_limit c =
-    let best = chosen_left c.requires c.bulkiest-best.result c.bulkiest-best.ensures c.if-best-eq-NO_ROW.false in
-    let one =
-    compared c.requires c.bulkiest-best.result c.bulkiest-best.ensures c.if-best-eq-NO_ROW.false _ c.one_more_is_limit.ensures
-    ∙ c.if-one_more_is_limit.true in
+    let is_best = c.in-Some.ensures in
+    let best = bulkiest-left c.requires c.in-Some.best is_best in
+    let one = compared c.requires c.in-Some.best is_best _ c.one_more_is_limit.ensures ∙ c.if-one_more_is_limit.true in
     record {
-      picked = (left-picked best, sym best.delivery.is_limit ∙ eqb-true _ _ one);
-      step = λ engines deliveries sized.
-          sym
-          (step-some c.requires c.bulkiest-best.result c.bulkiest-best.ensures engines deliveries sized c.if-best-eq-NO_ROW.false
-          ∙ rw one);
+      picked = (best.picked, sym best.is_limit ∙ eqb-true _ _ one);
+      step = λ engines deliveries sized. sym (step-some c.requires c.in-Some.best is_best engines deliveries sized ∙ rw one);
     }
 
-pub overflow_sub-best : goal.overflow_sub-best
-overflow_sub-best c = (limit_range c.requires c.bulkiest-best.result c.bulkiest-best.ensures c.if-best-eq-NO_ROW.false).least
+pub overflow_sub-from : goal.overflow_sub-from
+overflow_sub-from c = omega (arith, limit_some c.requires c.in-Some.best c.in-Some.ensures, c.from-2.ensures)
 
-pub returns-then-wide-best : goal.returns-then-wide-best
+pub returns-then-from : goal.returns-then-from
 unfolding PickOf step_of_turn step_by
-returns-then-wide-best c =
-    let not_one =
-    compared c.requires c.bulkiest-best.result c.bulkiest-best.ensures c.if-best-eq-NO_ROW.false _ c.one_more_is_limit.ensures
-    ∙ c.if-one_more_is_limit.false in
+returns-then-from c =
+    let is_best = c.in-Some.ensures in
+    let not_one = compared c.requires c.in-Some.best is_best _ c.one_more_is_limit.ensures ∙ c.if-one_more_is_limit.false in
     record {
       picked = tt;
       step = λ engines deliveries sized.
           sym
-          (step-some c.requires c.bulkiest-best.result c.bulkiest-best.ensures engines deliveries sized c.if-best-eq-NO_ROW.false
+          (step-some c.requires c.in-Some.best is_best engines deliveries sized
           ∙ rw (
             not_one,
             ← c.smallest-least.ensures engines sized.engine_set,
-            le-leb _ _ (rw (c.wide-2.ensures, c.wide.ensures) at c.if-wide-best.true),
+            le-leb _ _ (rw (c.from.ensures, c.from-2.ensures, c.from-3.ensures) at c.if-from.true),
           ));
     }
 
-pub returns : goal.returns
+pub returns-else-from : goal.returns-else-from
 unfolding PickOf step_of_turn step_by
-returns c =
-    let best = chosen_left c.requires c.bulkiest-best.result c.bulkiest-best.ensures c.if-best-eq-NO_ROW.false in
-    let not_one =
-    compared c.requires c.bulkiest-best.result c.bulkiest-best.ensures c.if-best-eq-NO_ROW.false _ c.one_more_is_limit.ensures
-    ∙ c.if-one_more_is_limit.false in
+returns-else-from c =
+    let is_best = c.in-Some.ensures in
+    let best = bulkiest-left c.requires c.in-Some.best is_best in
+    let not_one = compared c.requires c.in-Some.best is_best _ c.one_more_is_limit.ensures ∙ c.if-one_more_is_limit.false in
     record {
-      picked = (
-        left-picked best,
-        rw (← best.delivery.is_limit) (several c.requires c.bulkiest-best.result c.bulkiest-best.ensures c.if-best-eq-NO_ROW.false not_one),
-      );
+      picked = (best.picked, rw (← best.is_limit) (several c.requires c.in-Some.best is_best not_one));
       step = λ engines deliveries sized.
           sym
-          (step-some c.requires c.bulkiest-best.result c.bulkiest-best.ensures engines deliveries sized c.if-best-eq-NO_ROW.false
+          (step-some c.requires c.in-Some.best is_best engines deliveries sized
           ∙ rw (
             not_one,
             ← c.smallest-least.ensures engines sized.engine_set,
-            lt-leb _ _ (rw (c.wide-2.ensures, c.wide.ensures) at c.if-wide-best.false),
+            lt-leb _ _ (rw (c.from.ensures, c.from-2.ensures, c.from-3.ensures) at c.if-from.false),
           ));
     }

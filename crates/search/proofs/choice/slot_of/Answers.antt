@@ -1,59 +1,66 @@
--- The next closed engine is one of the arrays' own, so its slot can be looked at; a slot in use is a closed engine's.
-use Rattle.std.proofs.Common.{◌≡◌, ◌≢◌, refl, ℕ, ◌*◌, ◌%◌, ◌^◌, ◌<◌, arith}
-use Rattle.std.specs.Int.Count.{count_trailing_zeros}
+-- The next closed engine is one of the arrays' own, so its slot can be looked at; a slot in use is a closed engine's, and a delivery that
+-- is begun has one, so the pass does not end without it.
+use Rattle.std.proofs.Common.{◌≡◌, ◌<◌, sym, ◌∙◌, arith}
 use Rattle.planning.specs.Bounds.{most_engines}
-use Rattle.search.specs.Laws.Layout.Lookup.{none-next, none_end}
-use Rattle.search.specs.Laws.Layout.Slots.{holds_by, holds-free, holds-other}
-use Rattle.search.specs.Laws.Passes.{Ahead, Next, next-member}
-use Rattle.search.specs.Laws.Sets.{has-below, shifted}
-use Rattle.search.specs.Sets.{Others, engine_bits}
+use Rattle.search.specs.Laws.Layout.Lookup.{none-next, inside, found_before}
+use Rattle.search.specs.Laws.Layout.Serving.{open_below}
+use Rattle.search.specs.Laws.Layout.Slots.{holds_by, holds-free, holds-other, holds-inside}
+use Rattle.search.specs.Laws.Members.{member, no_member}
 use Rattle.search.proofs.choice.slot_of.Goals as goal
-use Rattle.search.proofs.choice.slot_of.Goals.{then-row-k+else-served-k-ne0, else-row-k}
+use Rattle.search.proofs.choice.slot_of.Goals.{else-from-p-via-then-from-p+else-s-k-ne0, else-from-p-via-else-from-p}
 
-module _ {opened closed set front : ℕ} (others : Others most_engines opened closed) (ahead : Ahead closed set front) (some : set ≢ 0) where
-  -- the next closed engine
-  next : Next closed set front (count_trailing_zeros engine_bits set)
-  next = next-member engine_bits closed set front (omega (arith, others.below)) some ahead
+pub returns-then-s-p-eq1 : goal.returns-then-s-p-eq1
+returns-then-s-p-eq1 c = record { fresh = λ e. member _ _ c.if-s-p-eq1.true; begun = λ k e. cc }
 
-  inside : count_trailing_zeros engine_bits set < most_engines
-  inside = has-below most_engines closed _ others.below next.member
+pub closed-requires : goal.closed-requires
+closed-requires c = open_below c.requires.kept.2.engines most_engines (omega (arith, c.requires.kept.2.arrays.amounts))
 
-  -- the set of that engine alone
-  alone : 1 * 2 ^ count_trailing_zeros engine_bits set % 2 ^ engine_bits ≡ 2 ^ count_trailing_zeros engine_bits set
-  alone = shifted engine_bits (count_trailing_zeros engine_bits set) (omega (arith, inside))
+pub offset_bounds-s-k : goal.offset_bounds-s-k
+offset_bounds-s-k c =
+    let invariant = rw (c.into_iter-k-iterator.ensures.into_iter_gives, c.from.ensures) at c.loop-k.invariant in
+    let slot : c.in-Some.k < most_engines = inside c.requires.kept.2.engines.free c.closed.ensures invariant c.in-Some.ensures.steps in
+    omega (arith, slot)
 
-pub bounds-row-k : goal.bounds-row-k
-bounds-row-k c = inside c.closed-set.ensures c.loop-set.invariant.ahead c.loop-set-test.true
+pub bounds-s-k : goal.bounds-s-k
+bounds-s-k c =
+    inside c.requires.kept.2.engines.free c.closed.ensures
+    (rw (c.into_iter-k-iterator.ensures.into_iter_gives, c.from.ensures) at c.loop-k.invariant)
+    c.in-Some.ensures.steps
 
-pub bounds-served-k : goal.bounds-served-k
-bounds-served-k c = inside c.closed-set.ensures c.loop-set.invariant.ahead c.loop-set-test.true
+pub bounds-s-k-then-from-p : goal.bounds-s-k-then-from-p
+bounds-s-k-then-from-p c =
+    inside c.requires.kept.2.engines.free c.closed.ensures
+    (rw (c.into_iter-k-iterator.ensures.into_iter_gives, c.from.ensures) at c.loop-k.invariant)
+    c.in-Some.ensures.steps
 
-pub returns-then-served-k-ne0 : goal.returns-then-served-k-ne0
-returns-then-served-k-ne0 c =
+pub returns-then-s-k-ne0 : goal.returns-then-s-k-ne0
+returns-then-s-k-ne0 c =
     record {
-      found = λ n. holds_by _ _ _ _ (omega (arith, c.if-served-k-ne0.true)) c.if-row-k.true;
-      nowhere = λ e. absurd (omega (arith, inside c.closed-set.ensures c.loop-set.invariant.ahead c.loop-set-test.true));
+      fresh = λ e. cc;
+      begun = λ k e.
+          let same : c.in-Some.k ≡ k = cc e in (
+            no_member _ _ c.if-s-p-eq1.false,
+            rw (← same) (holds_by _ _ _ _ (omega (arith, c.if-s-k-ne0.true)) (sym c.from-in-loop-k.ensures ∙ c.if-from-p.true)),
+          );
     }
 
-pub overflow_sub-set : goal.overflow_sub-set
-overflow_sub-set c =
-    rw (alone c.closed-set.ensures c.loop-set.invariant.ahead c.loop-set-test.true)
-    (next c.closed-set.ensures c.loop-set.invariant.ahead c.loop-set-test.true).power
-
-pub loop-set-preserved : goal.loop-set-preserved
-loop-set-preserved c =
-    rw (alone c.closed-set.ensures c.loop-set.invariant.ahead c.loop-set-test.true)
-    (none-next c.requires.0 c.closed-set.ensures c.loop-set.invariant engine_bits (omega (arith, c.closed-set.ensures.below))
-    c.loop-set-test.true
-    (inside c.closed-set.ensures c.loop-set.invariant.ahead c.loop-set-test.true)
-    (elim c.if-row-k.branch [
-      | then-row-k+else-served-k-ne0 w ↦ holds-free _ _ _ _ w.if-served-k-ne0.false
-      | else-row-k w ↦ holds-other _ _ _ _ w.if-row-k.false
+pub loop-k-preserved : goal.loop-k-preserved
+loop-k-preserved c =
+    rw (c.into_iter-k-iterator.ensures.into_iter_gives, c.from.ensures)
+    (none-next c.requires.kept.2.engines.free c.closed.ensures
+    (rw (c.into_iter-k-iterator.ensures.into_iter_gives, c.from.ensures) at c.loop-k.invariant)
+    c.in-Some.ensures.steps
+    (elim c.else-from-p.branch [
+      | else-from-p-via-then-from-p+else-s-k-ne0 w ↦ holds-free _ _ _ _ w.if-s-k-ne0.false
+      | else-from-p-via-else-from-p w ↦ holds-other _ _ _ _ (λ e. w.if-from-p.false (c.from-in-loop-k.ensures ∙ e))
     ]))
 
 pub returns : goal.returns
 returns c =
-    record {
-      found = λ n. absurd (n refl);
-      nowhere = λ e. none_end c.requires.0 c.closed-set.ensures c.loop-set.invariant c.loop-set-test.false;
-    }
+    let kept = c.requires.kept.2 in
+    let own = kept.deliveries.slotted c.args.p c.requires.is_left (no_member _ _ c.if-s-p-eq1.false) in
+    absurd
+    (found_before kept.engines.free c.closed.ensures
+    (rw (c.into_iter-k-iterator.ensures.into_iter_gives, c.from.ensures) at c.loop-k.invariant)
+    own.0
+    (omega (arith, holds-inside _ _ own.0 c.args.p own.1, kept.deliveries.serveds, kept.arrays.amounts)) own.1 c.in-None.ensures.steps)

@@ -2,8 +2,5 @@
 use Rattle.search.specs.Laws.Layout.Lookup.{NoneSoFar}
 use Rattle.search.proofs.choice.slot_of.Given as goal
 
-abbrev pub invariant-loop-set : goal.invariant-loop-set
-invariant-loop-set l = NoneSoFar l.initial.set l.served l.row l.p l.set
-
-abbrev pub decreases-loop-set : goal.decreases-loop-set
-decreases-loop-set l = l.set
+abbrev pub invariant-loop-k : goal.invariant-loop-k
+invariant-loop-k l = NoneSoFar l.initial.k-iterator.0 l.s.served l.s.row l.p l.k-iterator.0

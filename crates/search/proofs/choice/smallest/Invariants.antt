@@ -2,8 +2,5 @@
 use Rattle.search.specs.Laws.Passes.{LeastSoFar}
 use Rattle.search.proofs.choice.smallest.Given as goal
 
-abbrev pub invariant-loop-set : goal.invariant-loop-set
-invariant-loop-set l = LeastSoFar l.«open» l.amount l.set l.least
-
-abbrev pub decreases-loop-set : goal.decreases-loop-set
-decreases-loop-set l = l.set
+abbrev pub invariant-loop-i : goal.invariant-loop-i
+invariant-loop-i l = LeastSoFar l.s.«open» l.s.amount l.i-iterator.0 l.least

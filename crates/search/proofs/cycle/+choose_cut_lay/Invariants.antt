@@ -4,28 +4,20 @@ use Rattle.std.proofs.Common.{◌+◌, ◌*◌}
 use Rattle.planning.specs.Search.{size}
 use Rattle.search.specs.Laws.Rounds.Kinds.{laying, cutting}
 use Rattle.search.specs.Laws.Rounds.Loop.{Loop}
-use Rattle.search.specs.Layout.{state_of}
+use Rattle.search.specs.Layout.{document}
 use Rattle.search.proofs.cycle.+choose_cut_lay.Given as goal
 
 abbrev pub decreases-choose : goal.decreases-choose
-decreases-choose l = 2 * size (state_of l.engines l.deliveries l.energy.now l.limit.now l.s) + 1
+decreases-choose l = 2 * size (document l.task.now l.s) + 1
 
 abbrev pub decreases-cut : goal.decreases-cut
-decreases-cut l = 2 * size (state_of l.engines l.deliveries l.energy.now l.limit.now l.s)
+decreases-cut l = 2 * size (document l.task.now l.s)
 
 abbrev pub decreases-lay : goal.decreases-lay
-decreases-lay l = 2 * size (state_of l.engines l.deliveries l.energy.now l.limit.now l.s)
+decreases-lay l = 2 * size (document l.task.now l.s)
 
-abbrev pub invariant-cut-loop-set : goal.invariant-cut-loop-set
-invariant-cut-loop-set l =
-    Loop cutting l.engines l.deliveries l.energy l.limit l.s l.row l.slot l.rest l.allowance l.made l.initial.table l.table l.set l.tries
+abbrev pub invariant-cut-loop-i : goal.invariant-cut-loop-i
+invariant-cut-loop-i l = Loop cutting l.task l.s l.pick l.made l.initial.table l.table l.i-iterator.0 l.tries
 
-abbrev pub decreases-cut-loop-set : goal.decreases-cut-loop-set
-decreases-cut-loop-set l = l.set
-
-abbrev pub invariant-lay-loop-set : goal.invariant-lay-loop-set
-invariant-lay-loop-set l =
-    Loop laying l.engines l.deliveries l.energy l.limit l.s l.row l.slot l.rest l.allowance l.made l.initial.table l.table l.set l.tries
-
-abbrev pub decreases-lay-loop-set : goal.decreases-lay-loop-set
-decreases-lay-loop-set l = l.set
+abbrev pub invariant-lay-loop-i : goal.invariant-lay-loop-i
+invariant-lay-loop-i l = Loop laying l.task l.s l.pick l.made l.initial.table l.table l.i-iterator.0 l.tries

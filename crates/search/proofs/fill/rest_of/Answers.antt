@@ -1,35 +1,25 @@
 -- A delivery that is done has rest 0, one that is untouched its energy, and one that is begun what stands in its slot.
-use Rattle.std.proofs.Common.{sym, ◌∙◌, arith}
-use Rattle.search.proofs.Begun.{lookup, in_slot, slot_inside}
-use Rattle.search.specs.Laws.Layout.Deliveries.{slot-rest, rest-done}
-use Rattle.search.specs.Laws.Layout.Slots.{rest-untouched, rest_touched}
+use Rattle.std.proofs.Common.{refl, sym, arith}
+use Rattle.search.proofs.Begun.{slot_inside, rest_in_slot}
+use Rattle.search.specs.Laws.Layout.Deliveries.{rest-done}
+use Rattle.search.specs.Laws.Layout.Slots.{rest-untouched}
 use Rattle.search.specs.Laws.Members.{member, no_member}
 use Rattle.search.proofs.fill.rest_of.Goals as goal
 
-pub returns-then-left-p-eq0 : goal.returns-then-left-p-eq0
-returns-then-left-p-eq0 c = sym (rest-done c.requires.0.1.deliveries c.args.p (no_member c.args.left c.args.p (λ e. omega arith)))
+pub returns-then-s-p-eq0 : goal.returns-then-s-p-eq0
+returns-then-s-p-eq0 c = sym (rest-done c.requires.kept.deliveries c.args.p (no_member c.args.s.now.left c.args.p (λ e. omega arith)))
 
-pub returns-then-untouched-p-eq1 : goal.returns-then-untouched-p-eq1
-returns-then-untouched-p-eq1 c = sym (rest-untouched _ _ _ _ _ _ (member c.args.untouched c.args.p c.if-untouched-p-eq1.true))
+pub slot_of-requires-clause-is_left : goal.slot_of-requires-clause-is_left
+slot_of-requires-clause-is_left c = member c.args.s.now.left c.args.p (omega arith)
 
-pub slot_of-k-requires : goal.slot_of-k-requires
-slot_of-k-requires c = lookup c.requires.0.1
+pub offset_bounds-s-k : goal.offset_bounds-s-k
+offset_bounds-s-k c = omega (arith, slot_inside c.requires.kept c.args.p c.in-Some.ensures)
 
-pub offset_bounds-amount-k : goal.offset_bounds-amount-k
-offset_bounds-amount-k c =
-    let left = member c.args.left c.args.p (omega arith) in
-    let begun = no_member c.args.untouched c.args.p c.if-untouched-p-eq1.false in
-    omega (arith, slot_inside c.requires.0.1 c.args.p c.slot_of-k.result left begun c.slot_of-k.ensures)
+pub bounds-s-k : goal.bounds-s-k
+bounds-s-k c = slot_inside c.requires.kept c.args.p c.in-Some.ensures
 
-pub bounds-amount-k : goal.bounds-amount-k
-bounds-amount-k c =
-    let left = member c.args.left c.args.p (omega arith) in
-    let begun = no_member c.args.untouched c.args.p c.if-untouched-p-eq1.false in
-    slot_inside c.requires.0.1 c.args.p c.slot_of-k.result left begun c.slot_of-k.ensures
+pub returns-in-None : goal.returns-in-None
+returns-in-None c = sym (rest-untouched _ _ _ _ _ _ (c.in-None.ensures.fresh refl))
 
-pub returns : goal.returns
-returns c =
-    let left = member c.args.left c.args.p (omega arith) in
-    let begun = no_member c.args.untouched c.args.p c.if-untouched-p-eq1.false in
-    let slot = in_slot c.requires.0.1 c.args.p c.slot_of-k.result left begun c.slot_of-k.ensures in
-    sym (rest_touched _ _ _ _ _ _ begun ∙ slot-rest c.requires.0.1.deliveries _ _ slot.1)
+pub returns-in-Some : goal.returns-in-Some
+returns-in-Some c = sym (rest_in_slot c.requires.kept c.args.p c.in-Some.ensures)

@@ -7,7 +7,7 @@ use Rattle.search.specs.Laws.FirstSet.{beyond}
 use Rattle.search.specs.Laws.Sets.{shifted, has_with_same, has_with_other}
 use Rattle.search.specs.Sets.{has, engine_bits}
 use Rattle.search.proofs.start.open_engines.Goals as goal
-use Rattle.search.proofs.start.open_engines.Goals.{then-capacities-i-ne0, else-capacities-i-ne0}
+use Rattle.search.proofs.start.open_engines.Goals.{then-capacity-ne0, else-capacity-ne0}
 
 -- a set of engines below i has as members those with a capacity
 abbrev Members : List ℕ → (set i : ℕ) → Type 0
@@ -48,18 +48,18 @@ members_of capacities set l members i =
 pub loop-i-preserved : goal.loop-i-preserved
 loop-i-preserved c =
     let shift = shifted engine_bits c.loop-i.i (omega arith) in
-    let turn : (c.if-capacities-i-ne0.«open» < 2 ^ (c.loop-i.i + 1)) × Members c.args.capacities.now c.if-capacities-i-ne0.«open» (c.loop-i.i + 1) =
-    elim c.if-capacities-i-ne0.branch [
-      | then-capacities-i-ne0 w ↦
-          opened c.args.capacities.now c.loop-i.i c.loop-i.«open» c.if-capacities-i-ne0.«open» c.loop-i.invariant.1 c.loop-i.invariant.2
-          (omega (arith, w.if-capacities-i-ne0.true)) (w.open-is ∙ rw shift)
-      | else-capacities-i-ne0 w ↦
-          passed c.args.capacities.now c.loop-i.i c.loop-i.«open» c.if-capacities-i-ne0.«open» c.loop-i.invariant.1 c.loop-i.invariant.2
-          w.if-capacities-i-ne0.false w.open-is
+    let turn : (c.if-capacity-ne0.«open» < 2 ^ (c.loop-i.i + 1)) × Members c.args.capacities.now c.if-capacity-ne0.«open» (c.loop-i.i + 1) =
+    elim c.if-capacity-ne0.branch [
+      | then-capacity-ne0 w ↦
+          opened c.args.capacities.now c.loop-i.i c.loop-i.«open» c.if-capacity-ne0.«open» c.loop-i.invariant.0 c.loop-i.invariant.1
+          (omega (arith, w.if-capacity-ne0.true)) (w.open-is ∙ rw shift)
+      | else-capacity-ne0 w ↦
+          passed c.args.capacities.now c.loop-i.i c.loop-i.«open» c.if-capacity-ne0.«open» c.loop-i.invariant.0 c.loop-i.invariant.1
+          w.if-capacity-ne0.false w.open-is
     ] in
-    (omega arith, turn.0, turn.1)
+    turn
 
 pub returns : goal.returns
 returns c = λ i.
     let all : c.loop-i.i ≡ length c.args.capacities.now = omega arith in
-    members_of c.args.capacities.now c.loop-i.«open» (rw all at c.loop-i.invariant.1) (rw all at c.loop-i.invariant.2) i
+    members_of c.args.capacities.now c.loop-i.«open» (rw all at c.loop-i.invariant.0) (rw all at c.loop-i.invariant.1) i

@@ -1,29 +1,30 @@
 -- The slot in which a delivery lives after a cut: its own, or that of the engine where it was untouched.
 -- Assumes nothing.
-use Rattle.std.specs.Prelude.{◌≡◌, ◌≢◌, ◌⊎◌, true, false, List, ℕ, ◌+◌, ◌-◌, ◌^◌, ◌≤◌, ◌<◌, length, set}
+use Rattle.std.specs.Prelude.{◌≡◌, ◌≢◌, ◌⊎◌, true, false, List, ℕ, ◌+◌, ◌-◌, ◌^◌, ◌≤◌, ◌<◌, length, set, Some, None}
 use Rattle.std.proofs.Common.{sym, ap, ◌∙◌, inl, inr, arith, length-set, pow_pos, get_or-set_same, get_or-set_other}
 use Rattle.std.specs.Int.Count.{ones}
 use Rattle.planning.proofs.Laws.Finite.Decisions.{equal_or_not}
 use Rattle.planning.specs.Tables.{at}
+use Rattle.search.specs.declared.state.Pick.{Pick}
 use Rattle.search.specs.declared.state.State.{State}
-use Rattle.search.specs.Layout.{holds, limit_of, no_slot, Kept, Picked}
+use Rattle.search.specs.Layout.{holds, limit_of, Kept, Picked}
 use Rattle.search.specs.Sets.{has}
 use Rattle.search.specs.Laws.Sets.{clash, has_with_other, has-single-other, ones_with, ones_single}
 use Rattle.search.specs.Laws.Layout.Serving.{open_inside, open_serves-none}
 use Rattle.search.specs.Laws.Layout.Slots.{holds-used, holds_row, holds-inside, holds-free, holds-other}
-use Rattle.search.specs.Laws.Layout.Picked.{Touched, only_slot, limit_in_slot, limit_in_plan}
+use Rattle.search.specs.Laws.Layout.Picked.{no_other, not_none, Touched, only_slot, limit_in_slot, limit_in_plan}
 
--- r is s after a piece equal to what remains of engine i was cut off delivery `row`, in that slot
-pub record Cuts (s : State) (row slot rest i : ℕ) (r : State) : Type 0 where
+-- r is s after a piece equal to what remains of engine i was cut off the delivery picked
+pub record Cuts (s : State) (pick : Pick) (i : ℕ) (r : State) : Type 0 where
   pub is_left : r.left ≡ s.left
-  pub is_untouched : Touched slot row s.untouched r.untouched
+  pub is_untouched : Touched pick s.untouched r.untouched
   pub is_open : r.«open» ≡ s.«open» - 2 ^ i
-  pub begun_amount : slot ≢ no_slot → r.amount ≡ set s.amount slot (rest - at s.amount i)
-  pub begun_served : slot ≢ no_slot → r.served ≡ set s.served slot (at s.served slot + 2 ^ i)
-  pub begun_row : slot ≢ no_slot → r.row ≡ s.row
-  pub fresh_amount : slot ≡ no_slot → r.amount ≡ set s.amount i (rest - at s.amount i)
-  pub fresh_served : slot ≡ no_slot → r.served ≡ set s.served i (2 ^ i)
-  pub fresh_row : slot ≡ no_slot → r.row ≡ set s.row i row
+  pub begun_amount : (k : ℕ) → pick.slot ≡ Some k → r.amount ≡ set s.amount k (pick.rest - at s.amount i)
+  pub begun_served : (k : ℕ) → pick.slot ≡ Some k → r.served ≡ set s.served k (at s.served k + 2 ^ i)
+  pub begun_row : (k : ℕ) → pick.slot ≡ Some k → r.row ≡ s.row
+  pub fresh_amount : pick.slot ≡ None → r.amount ≡ set s.amount i (pick.rest - at s.amount i)
+  pub fresh_served : pick.slot ≡ None → r.served ≡ set s.served i (2 ^ i)
+  pub fresh_row : pick.slot ≡ None → r.row ≡ set s.row i pick.row
 
 -- The delivery cut lives in slot t afterwards: its own, or that of the engine. What this slot has in r and had in s, while every
 -- other slot is as it was.
@@ -58,48 +59,49 @@ set-length xs ys t v e = ap length e ∙ length-set xs t v
 module _
     {energy limit : List ℕ}
     {s r : State}
-    {row slot rest i : ℕ}
+    {pick : Pick}
+    {i : ℕ}
     (kept : Kept energy limit s)
-    (picked : Picked energy s row slot rest)
-    (several : 2 ≤ limit_of limit s row)
+    (picked : Picked energy s pick)
+    (several : 2 ≤ limit_of limit s pick.row)
     (engine : has s.«open» i ≡ true)
-    (cuts : Cuts s row slot rest i r) where
+    (cuts : Cuts s pick i r) where
   -- where the delivery was begun before
 
-  pub begun_slot : slot ≢ no_slot → Slot limit s row rest i r slot
-  begun_slot m =
+  pub begun_slot : (slot : ℕ) → pick.slot ≡ Some slot → Slot limit s pick.row pick.rest i r slot
+  begun_slot slot m =
       record {
-        amounts = set-length s.amount r.amount slot _ (cuts.begun_amount m);
-        serveds = set-length s.served r.served slot _ (cuts.begun_served m);
-        rows = ap length (cuts.begun_row m);
-        amount_here = set_here s.amount r.amount slot _ (omega (arith, inside, kept.deliveries.serveds)) (cuts.begun_amount m);
-        amount_other = set_other s.amount r.amount slot _ (cuts.begun_amount m);
+        amounts = set-length s.amount r.amount slot _ (cuts.begun_amount slot m);
+        serveds = set-length s.served r.served slot _ (cuts.begun_served slot m);
+        rows = ap length (cuts.begun_row slot m);
+        amount_here = set_here s.amount r.amount slot _ (omega (arith, inside, kept.deliveries.serveds)) (cuts.begun_amount slot m);
+        amount_other = set_other s.amount r.amount slot _ (cuts.begun_amount slot m);
         served_here = λ j h. member j (ap (λ (v : ℕ). has v j) (sym here) ∙ h) (equal_or_not j i);
         served_some = omega (arith, here, used);
-        served_other = set_other s.served r.served slot _ (cuts.begun_served m);
-        served_few = omega (arith, counted, several, limit_in_slot kept picked m);
-        limit_less = omega (arith, counted, limit_in_slot kept picked m);
-        row_here = ap (λ (xs : List ℕ). at xs slot) (cuts.begun_row m) ∙ own;
-        row_other = λ k n. ap (λ (xs : List ℕ). at xs k) (cuts.begun_row m);
-        only_here = λ k n. only_slot kept picked k (inr n);
+        served_other = set_other s.served r.served slot _ (cuts.begun_served slot m);
+        served_few = omega (arith, counted, several, limit_in_slot kept picked slot m);
+        limit_less = omega (arith, counted, limit_in_slot kept picked slot m);
+        row_here = ap (λ (xs : List ℕ). at xs slot) (cuts.begun_row slot m) ∙ own;
+        row_other = λ k n. ap (λ (xs : List ℕ). at xs k) (cuts.begun_row slot m);
+        only_here = λ k n. only_slot kept picked k (no_other m n);
         not_others = λ p n. holds-other s.served s.row slot p (λ e. n (sym e ∙ own));
         not_open = λ j h n e. omega (arith, used, ap (at s.served) e, kept.engines.free j h);
       }
     where
-      holding : holds s.served s.row slot row ≡ true
-      holding = (picked.is_slot.begun m).1
+      holding : holds s.served s.row slot pick.row ≡ true
+      holding = (picked.is_slot.begun slot m).1
 
       used : 0 < at s.served slot
-      used = holds-used s.served s.row slot row holding
+      used = holds-used s.served s.row slot pick.row holding
 
       inside : slot < length s.served
-      inside = holds-inside s.served s.row slot row holding
+      inside = holds-inside s.served s.row slot pick.row holding
 
-      own : at s.row slot ≡ row
-      own = holds_row s.served s.row slot row holding
+      own : at s.row slot ≡ pick.row
+      own = holds_row s.served s.row slot pick.row holding
 
       here : at r.served slot ≡ at s.served slot + 2 ^ i
-      here = set_here s.served r.served slot _ inside (cuts.begun_served m)
+      here = set_here s.served r.served slot _ inside (cuts.begun_served slot m)
 
       new : has (at s.served slot) i ≡ false
       new = open_serves-none kept.engines slot i engine
@@ -113,7 +115,7 @@ module _
 
   -- where it was untouched
 
-  pub fresh_slot : slot ≡ no_slot → Slot limit s row rest i r i
+  pub fresh_slot : pick.slot ≡ None → Slot limit s pick.row pick.rest i r i
   fresh_slot z =
       record {
         amounts = set-length s.amount r.amount i _ (cuts.fresh_amount z);
@@ -128,7 +130,7 @@ module _
         limit_less = omega (arith, counted, limit_in_plan kept picked z);
         row_here = set_here s.row r.row i _ (omega (arith, inside, kept.deliveries.rows)) (cuts.fresh_row z);
         row_other = set_other s.row r.row i _ (cuts.fresh_row z);
-        only_here = λ k n. only_slot kept picked k (inl z);
+        only_here = λ k n. only_slot kept picked k (not_none z k);
         not_others = λ p n. holds-free s.served s.row i p (kept.engines.free i engine);
         not_open = λ j h n. n;
       }

@@ -1,6 +1,6 @@
 -- Cutting a delivery of limit 2 or more at an engine is document 01's step, and the state after it is kept again.
 -- Assumes nothing.
-use Rattle.std.specs.Prelude.{◌≡◌, ◌≢◌, ◌⊎◌, Bool, List, length}
+use Rattle.std.specs.Prelude.{◌≡◌, ◌≢◌, ◌⊎◌, Bool, List, length, Some, None}
 use Rattle.std.proofs.Math.Path.{refl, sym, ap, ap₂}
 use Rattle.std.proofs.Common.{◌∙◌, inl, inr, arith}
 use Rattle.std.proofs.Math.Bool.{true, false, cond}
@@ -12,8 +12,9 @@ use Rattle.planning.proofs.Laws.Tables.{at_listed}
 use Rattle.planning.specs.Tables.{listed, at}
 use Rattle.planning.specs.Plan.{Within}
 use Rattle.planning.specs.Search.{after_cutting}
+use Rattle.search.specs.declared.state.Pick.{Pick}
 use Rattle.search.specs.declared.state.State.{State}
-use Rattle.search.specs.Layout.{holds, remaining_at, rest_of, limit_of, state_of, no_slot, Arrays, Deliveries, Engines, Kept, Sized, Picked, CutOff}
+use Rattle.search.specs.Layout.{holds, remaining_at, rest_of, limit_of, state_of, Arrays, Deliveries, Engines, Kept, Sized, Picked, CutOff}
 use Rattle.search.specs.Sets.{has}
 use Rattle.search.specs.Laws.Documents.{listed-set, same_document}
 use Rattle.search.specs.Laws.Members.{remaining_open}
@@ -21,37 +22,38 @@ use Rattle.search.specs.Laws.Sets.{clash, has-without-same, has-without-other}
 use Rattle.search.specs.Laws.Layout.CutSlot.{Cuts, Slot, begun_slot, fresh_slot}
 use Rattle.search.specs.Laws.Layout.Serving.{open_inside}
 use Rattle.search.specs.Laws.Layout.Slots.{holds_by, holds-other, holds_alike, rest_of_slot, served_of_slot, rest_touched, limit-begun, Unmoved, rest-unmoved, limit-unmoved}
-use Rattle.search.specs.Laws.Layout.Picked.{rest_range, touched_row, touched_other}
+use Rattle.search.specs.Laws.Layout.Picked.{slot_cases, rest_range, touched_row, touched_other}
 
 module _
     {energy limit : List ℕ}
     {s r : State}
-    {row slot rest i : ℕ}
+    {pick : Pick}
+    {i : ℕ}
     (kept : Kept energy limit s)
-    (picked : Picked energy s row slot rest)
-    (several : 2 ≤ limit_of limit s row)
+    (picked : Picked energy s pick)
+    (several : 2 ≤ limit_of limit s pick.row)
     (engine : has s.«open» i ≡ true)
-    (below : at s.amount i < rest)
-    (cuts : Cuts s row slot rest i r) where
+    (below : at s.amount i < pick.rest)
+    (cuts : Cuts s pick i r) where
   -- the sets, place by place
 
   left-same : (p : ℕ) → has r.left p ≡ has s.left p
   left-same p = ap (λ (n : ℕ). has n p) cuts.is_left
 
-  untouched-row : has r.untouched row ≡ false
+  untouched-row : has r.untouched pick.row ≡ false
   untouched-row = touched_row kept picked r.untouched cuts.is_untouched
 
-  untouched-other : (p : ℕ) → p ≢ row → has r.untouched p ≡ has s.untouched p
+  untouched-other : (p : ℕ) → p ≢ pick.row → has r.untouched p ≡ has s.untouched p
   untouched-other = touched_other kept picked r.untouched cuts.is_untouched
 
   -- what is untouched was untouched, and what was begun is begun
   was_untouched : (p : ℕ) → has r.untouched p ≡ true → has s.untouched p ≡ true
   was_untouched =
-      at-or_else (λ p. has r.untouched p ≡ true → has s.untouched p ≡ true) row
-      (λ h. absurd (clash (has r.untouched row) h untouched-row)) (λ p n h. sym (untouched-other p n) ∙ h)
+      at-or_else (λ p. has r.untouched p ≡ true → has s.untouched p ≡ true) pick.row
+      (λ h. absurd (clash (has r.untouched pick.row) h untouched-row)) (λ p n h. sym (untouched-other p n) ∙ h)
 
   still_begun : (p : ℕ) → has s.untouched p ≡ false → has r.untouched p ≡ false
-  still_begun = at-or_else (λ p. has s.untouched p ≡ false → has r.untouched p ≡ false) row (λ h. untouched-row) (λ p n h. untouched-other p n ∙ h)
+  still_begun = at-or_else (λ p. has s.untouched p ≡ false → has r.untouched p ≡ false) pick.row (λ h. untouched-row) (λ p n h. untouched-other p n ∙ h)
 
   open_engine : has r.«open» i ≡ false
   open_engine = ap (λ (m : ℕ). has m i) cuts.is_open ∙ has-without-same s.«open» i engine
@@ -68,31 +70,31 @@ module _
   still_closed : (j : ℕ) → has s.«open» j ≡ false → has r.«open» j ≡ false
   still_closed = at-or_else (λ j. has s.«open» j ≡ false → has r.«open» j ≡ false) i (λ h. open_engine) (λ j n h. open_other j n ∙ h)
 
-  module _ (t : ℕ) (cell : Slot limit s row rest i r t) where
-    holds-here : holds r.served r.row t row ≡ true
-    holds-here = holds_by r.served r.row t row cell.served_some cell.row_here
+  module _ (t : ℕ) (cell : Slot limit s pick.row pick.rest i r t) where
+    holds-here : holds r.served r.row t pick.row ≡ true
+    holds-here = holds_by r.served r.row t pick.row cell.served_some cell.row_here
 
     holds-elsewhere : (k p : ℕ) → k ≢ t → holds r.served r.row k p ≡ holds s.served s.row k p
     holds-elsewhere k p n = holds_alike s.served s.row r.served r.row k p (cell.served_other k n) (cell.row_other k n)
 
-    only_here : (k : ℕ) → k ≢ t → holds r.served r.row k row ≡ false
-    only_here k n = holds-elsewhere k row n ∙ cell.only_here k n
+    only_here : (k : ℕ) → k ≢ t → holds r.served r.row k pick.row ≡ false
+    only_here k n = holds-elsewhere k pick.row n ∙ cell.only_here k n
 
     was_used : (k : ℕ) → k ≢ t → 0 < at r.served k → 0 < at s.served k
     was_used k n u = omega (arith, cell.served_other k n)
 
     -- a delivery other than the one cut has its slot as before
-    holds-other-delivery : (p : ℕ) → p ≢ row → (k : ℕ) → holds r.served r.row k p ≡ holds s.served s.row k p
+    holds-other-delivery : (p : ℕ) → p ≢ pick.row → (k : ℕ) → holds r.served r.row k p ≡ holds s.served s.row k p
     holds-other-delivery p n =
         at-or_else (λ k. holds r.served r.row k p ≡ holds s.served s.row k p) t
         (holds-other r.served r.row t p (λ e. n (sym e ∙ cell.row_here)) ∙ sym (cell.not_others p n))
         (λ k d. holds-elsewhere k p d)
 
-    elsewhere : (p : ℕ) → p ≢ row → (k : ℕ) → holds s.served s.row k p ≡ true → k ≢ t
+    elsewhere : (p : ℕ) → p ≢ pick.row → (k : ℕ) → holds s.served s.row k p ≡ true → k ≢ t
     elsewhere p n k h e =
         clash (holds s.served s.row k p) h (ap (λ (m : ℕ). holds s.served s.row m p) e ∙ cell.not_others p n)
 
-    unmoved : (p : ℕ) → p ≢ row → Unmoved s r p
+    unmoved : (p : ℕ) → p ≢ pick.row → Unmoved s r p
     unmoved p n =
         record {
           same_slots = cell.serveds;
@@ -116,14 +118,14 @@ module _
           slot_begun = slot-begun;
           slot_rests = slot-rests;
           slot_few = slot-few;
-          slotted = λ p h u. slotted p (equal_or_not p row) h u;
+          slotted = λ p h u. slotted p (equal_or_not p pick.row) h u;
           alone = λ k l u v e. alone k l u v e (equal_or_not k t) (equal_or_not l t);
         }
       where
         slot-left : (k : ℕ) → 0 < at r.served k → has r.left (at r.row k) ≡ true
         slot-left =
             at-or_else (λ k. 0 < at r.served k → has r.left (at r.row k) ≡ true) t
-            (λ u. rw cell.row_here (left-same row ∙ picked.is_left))
+            (λ u. rw cell.row_here (left-same pick.row ∙ picked.is_left))
             (λ k n u. rw (cell.row_other k n) (left-same (at s.row k) ∙ kept.deliveries.slot_left k (was_used k n u)))
 
         slot-begun : (k : ℕ) → 0 < at r.served k → has r.untouched (at r.row k) ≡ false
@@ -147,7 +149,7 @@ module _
             (λ u. rw cell.row_here cell.served_few)
             (λ k n u. rw (cell.row_other k n, cell.served_other k n) (kept.deliveries.slot_few k (was_used k n u)))
 
-        slotted : (p : ℕ) → (p ≡ row) ⊎ (p ≢ row) → has r.left p ≡ true → has r.untouched p ≡ false
+        slotted : (p : ℕ) → (p ≡ pick.row) ⊎ (p ≢ pick.row) → has r.left p ≡ true → has r.untouched p ≡ false
             → (k : ℕ) × (holds r.served r.row k p ≡ true)
         slotted p (inl e) h u = (t, ap (holds r.served r.row t) e ∙ holds-here)
         slotted p (inr n) h u =
@@ -157,7 +159,7 @@ module _
         -- another slot in use is not the delivery's
         foreign : (k : ℕ) → k ≢ t → 0 < at r.served k → at r.row k ≢ at r.row t
         foreign k n u e =
-            clash (holds r.served r.row k row) (holds_by r.served r.row k row u (e ∙ cell.row_here)) (only_here k n)
+            clash (holds r.served r.row k pick.row) (holds_by r.served r.row k pick.row u (e ∙ cell.row_here)) (only_here k n)
 
         alone : (k l : ℕ) → 0 < at r.served k → 0 < at r.served l → at r.row k ≡ at r.row l
             → (k ≡ t) ⊎ (k ≢ t) → (l ≡ t) ⊎ (l ≢ t) → k ≡ l
@@ -199,16 +201,16 @@ module _
 
     -- and is document 01's
 
-    rest-row : rest_of energy r row ≡ rest - at s.amount i
+    rest-row : rest_of energy r pick.row ≡ pick.rest - at s.amount i
     rest-row =
-        rest_touched energy r.untouched r.amount r.served r.row row untouched-row
-        ∙ rest_of_slot r.amount r.served r.row row t holds-here only_here
+        rest_touched energy r.untouched r.amount r.served r.row pick.row untouched-row
+        ∙ rest_of_slot r.amount r.served r.row pick.row t holds-here only_here
         ∙ cell.amount_here
 
-    limit-row : limit_of limit r row ≡ limit_of limit s row - 1
+    limit-row : limit_of limit r pick.row ≡ limit_of limit s pick.row - 1
     limit-row =
-        limit-begun limit r.left r.untouched r.served r.row row (left-same row ∙ picked.is_left) untouched-row
-        ∙ ap (λ (n : ℕ). at limit row - ones n) (served_of_slot r.served r.row row t holds-here only_here)
+        limit-begun limit r.left r.untouched r.served r.row pick.row (left-same pick.row ∙ picked.is_left) untouched-row
+        ∙ ap (λ (n : ℕ). at limit pick.row - ones n) (served_of_slot r.served r.row pick.row t holds-here only_here)
         ∙ cell.limit_less
 
     remaining-engine : remaining_at r.«open» r.amount i ≡ 0
@@ -232,33 +234,33 @@ module _
             delivery_set = λ p h. sized.delivery_set p (sym (left-same p) ∙ h);
           }
 
-      state-after : state_of engine_count delivery_count energy limit r ≡ after_cutting (state_of engine_count delivery_count energy limit s) row i
+      state-after : state_of engine_count delivery_count energy limit r ≡ after_cutting (state_of engine_count delivery_count energy limit s) pick.row i
       unfolding state_of after_cutting
       state-after =
           let in_engines : i < engine_count = sized.engine_set i engine in
-          let in_deliveries : row < delivery_count = sized.delivery_set row picked.is_left in
+          let in_deliveries : pick.row < delivery_count = sized.delivery_set pick.row picked.is_left in
           let remainings : ℕ → ℕ = λ j. remaining_at s.«open» s.amount j in
           let rests : ℕ → ℕ = λ p. rest_of energy s p in
           let limits : ℕ → ℕ = λ p. limit_of limit s p in
           same_document _ _ _ _ _ _
           (listed-set engine_count remainings (λ j. remaining_at r.«open» r.amount j) i 0 in_engines
           (λ j l n. remaining-other j n) remaining-engine)
-          (listed-set delivery_count rests (λ p. rest_of energy r p) row
-          (at (listed delivery_count rests) row - at (listed engine_count remainings) i) in_deliveries
+          (listed-set delivery_count rests (λ p. rest_of energy r p) pick.row
+          (at (listed delivery_count rests) pick.row - at (listed engine_count remainings) i) in_deliveries
           (λ p l n. rest-unmoved s r p (unmoved p n) energy)
           (rest-row
-          ∙ ap₂ ◌-◌ (picked.is_rest ∙ sym (at_listed delivery_count rests row in_deliveries))
+          ∙ ap₂ ◌-◌ (picked.is_rest ∙ sym (at_listed delivery_count rests pick.row in_deliveries))
           (sym (at_listed engine_count remainings i in_engines ∙ remaining_open s.«open» s.amount i engine))))
-          (listed-set delivery_count limits (λ p. limit_of limit r p) row (at (listed delivery_count limits) row - 1) in_deliveries
+          (listed-set delivery_count limits (λ p. limit_of limit r p) pick.row (at (listed delivery_count limits) pick.row - 1) in_deliveries
           (λ p l n. limit-unmoved s r p (unmoved p n) limit)
-          (limit-row ∙ ap (λ (n : ℕ). n - 1) (sym (at_listed delivery_count limits row in_deliveries))))
+          (limit-row ∙ ap (λ (n : ℕ). n - 1) (sym (at_listed delivery_count limits pick.row in_deliveries))))
 
-    cut_in_slot : CutOff energy limit s row i r
+    cut_in_slot : CutOff energy limit s pick.row i r
     cut_in_slot = record { kept = record { deliveries = deliveries; engines = engines; arrays = arrays }; sized = sized-after; state = state-after }
 
-  pub cut_off : CutOff energy limit s row i r
-  cut_off = go (equal_or_not slot no_slot)
+  pub cut_off : CutOff energy limit s pick.row i r
+  cut_off = go (slot_cases pick.slot)
     where
-      go : (slot ≡ no_slot) ⊎ (slot ≢ no_slot) → CutOff energy limit s row i r
+      go : (pick.slot ≡ None) ⊎ ((k : ℕ) × (pick.slot ≡ Some k)) → CutOff energy limit s pick.row i r
       go (inl z) = cut_in_slot i (fresh_slot kept picked several engine cuts z)
-      go (inr m) = cut_in_slot slot (begun_slot kept picked several engine cuts m)
+      go (inr (k, m)) = cut_in_slot k (begun_slot kept picked several engine cuts k m)

@@ -1,22 +1,20 @@
 -- A delivery left has one slot or none, so the sums over the slots are that slot's numbers; its rest and limit are in range, and a
 -- delivery that is done has rest 0. For any number of slots.
 -- Assumes nothing.
-use Rattle.std.specs.Prelude.{◌≡◌, ◌≢◌, ◌⊎◌, Bool, List, ℕ, ◌+◌, ◌-◌, ◌≤◌, ◌<◌, eqb, length}
+use Rattle.std.specs.Prelude.{◌≡◌, ◌≢◌, ◌⊎◌, Bool, List, ℕ, ◌+◌, ◌-◌, ◌<◌, eqb, length}
 use Rattle.std.proofs.Math.Path.{refl}
 use Rattle.std.proofs.Common.{sym, ◌∙◌, inl, inr, true≢false, arith, eq-eqb, ne_eqb}
 use Rattle.std.proofs.Math.Bool.{true, false}
 use Rattle.std.specs.Int.Count.{ones}
-use Rattle.planning.specs.Bounds.{most_engines, most_energy, most_limit}
+use Rattle.planning.specs.Bounds.{most_energy, most_limit}
 use Rattle.planning.proofs.Laws.Finite.Decisions.{equal_or_not}
 use Rattle.planning.proofs.Laws.Finite.Lists.{inside_of}
 use Rattle.planning.specs.Plan.{Within}
 use Rattle.planning.specs.Tables.{at}
-use Rattle.search.specs.Layout.{holds, slot_rest, slot_served, rest_at, served_at, limit_at, no_slot, Deliveries}
-use Rattle.search.specs.Laws.Layout.Slots.{holds-used, holds_row, holds-inside, rest_of_slot, served_of_slot, rest_of_none}
+use Rattle.search.specs.Layout.{holds, slot_rest, slot_served, rest_at, served_at, limit_at, Deliveries}
+use Rattle.search.specs.Laws.Layout.Slots.{holds-used, holds_row, rest_of_slot, served_of_slot, rest_of_none}
 use Rattle.search.specs.Laws.Layout.Slots.{rest-untouched, rest_touched, served-untouched, served_touched, limit-left}
-use Rattle.search.specs.Laws.Sets.{clash}
 use Rattle.search.specs.Sets.{has}
-use Rattle.search.specs.Steps.{FindsSlot}
 
 false_unless : (b : Bool) → (b ≡ true → ⊥) → b ≡ false
 false_unless true h = absurd (h refl)
@@ -47,17 +45,6 @@ module _ {energy limit : List ℕ} {left untouched : ℕ} {amount served row : L
 
   pub slot-served : (k p : ℕ) → holds served row k p ≡ true → slot_served served row p ≡ at served k
   slot-served k p h = served_of_slot served row p k h (others-free k p h)
-
-  -- a delivery that is begun has the slot that is found for it
-  pub slot_found : length amount ≤ most_engines → (p slot : ℕ) → has left p ≡ true → has untouched p ≡ false → FindsSlot served row p slot
-      → (slot ≢ no_slot) × (holds served row slot p ≡ true)
-  slot_found few p slot h u finds = (some, finds.found some)
-    where
-      some : slot ≢ no_slot
-      some e =
-          let own = d.slotted p h u in
-          clash (holds served row own.0 p) own.1
-          (finds.nowhere e own.0 (omega (arith, holds-inside served row own.0 p own.1, d.serveds)))
 
   -- fewer engines serve a delivery left than its limit
   pub served-few : (p : ℕ) → has left p ≡ true → ones (served_at untouched served row p) < at limit p

@@ -13,10 +13,12 @@ use Rattle.planning.proofs.Laws.Search.Bound.{size-laying, size-cutting}
 use Rattle.planning.proofs.Laws.Search.Steps.{lay_can, cut_can}
 use Rattle.planning.specs.Search.{State as Document, Step, lays, cuts, can_lay, after_laying, can_cut, after_cutting, size}
 use Rattle.planning.specs.Tables.{at}
+use Rattle.search.specs.declared.state.Pick.{Pick}
 use Rattle.search.specs.declared.state.State.{State}
+use Rattle.search.specs.declared.state.Task.{Task}
 use Rattle.search.specs.Laws.Layout.Picked.{rest_range}
 use Rattle.search.specs.Laws.Members.{remaining_open, remaining-closed}
-use Rattle.search.specs.Layout.{remaining_at, rest_of, state_of, Kept, Sized, Room, Picked, Laid, CutOff}
+use Rattle.search.specs.Layout.{remaining_at, rest_of, state_of, document, Kept, Sized, Room, Picked, Laid, CutOff}
 use Rattle.search.specs.Sets.{has}
 
 -- D or F
@@ -80,62 +82,61 @@ module _ (energy limit : List ℕ) (s : State) (row i : ℕ) (r : State) where
   after-state cutting a = a.state
 
 -- a delivery that is picked in a state of a search, with a table to write
-pub record Held (engines deliveries : ℕ) (energy limit : List ℕ) (s : State) (row slot rest : ℕ) (lent : List ℕ) : Type 0 where
-  pub kept : Kept energy limit s
-  pub sized : Sized engines deliveries s.left s.«open»
-  pub picked : Picked energy s row slot rest
-  pub room : Room engines deliveries (length lent)
+pub record Held (task : Task) (s : State) (pick : Pick) (lent : List ℕ) : Type 0 where
+  pub kept : Kept task.energy task.limit s
+  pub sized : Sized task.engines task.deliveries s.left s.«open»
+  pub picked : Picked task.energy s pick
+  pub room : Room task.engines task.deliveries (length lent)
 
-module _ {engines deliveries : ℕ} {energy limit : List ℕ} {s : State} {row slot rest : ℕ} {lent : List ℕ}
-    (held : Held engines deliveries energy limit s row slot rest lent) where
+module _ {task : Task} {s : State} {pick : Pick} {lent : List ℕ} (held : Held task s pick lent) where
   abbrev state : Document
-  state = state_of engines deliveries energy limit s
+  state = document task s
 
   -- what remains of an open engine is its amount, and of a closed one nothing
   open_amount : (i : ℕ) → has s.«open» i ≡ true → at state.remaining i ≡ at s.amount i
   unfolding state_of
   open_amount i h =
-      at_listed engines (λ k. remaining_at s.«open» s.amount k) i (held.sized.engine_set i h)
+      at_listed task.engines (λ k. remaining_at s.«open» s.amount k) i (held.sized.engine_set i h)
       ∙ remaining_open s.«open» s.amount i h
 
   closed-amount : (i : ℕ) → has s.«open» i ≡ false → at state.remaining i ≡ 0
   unfolding state_of
-  closed-amount i h = go (le-or-lt engines i)
+  closed-amount i h = go (le-or-lt task.engines i)
     where
-      go : (engines ≤ i) ⊎ (i < engines) → at state.remaining i ≡ 0
-      go (inl l) = get_or-eq_default state.remaining 0 (rw (length-listed engines (λ k. remaining_at s.«open» s.amount k)) l)
+      go : (task.engines ≤ i) ⊎ (i < task.engines) → at state.remaining i ≡ 0
+      go (inl l) = get_or-eq_default state.remaining 0 (rw (length-listed task.engines (λ k. remaining_at s.«open» s.amount k)) l)
       go (inr l) =
-          at_listed engines (λ k. remaining_at s.«open» s.amount k) i l ∙ remaining-closed s.«open» s.amount i h
+          at_listed task.engines (λ k. remaining_at s.«open» s.amount k) i l ∙ remaining-closed s.«open» s.amount i h
 
-  picked-rest : at state.rest row ≡ rest
+  picked-rest : at state.rest pick.row ≡ pick.rest
   unfolding state_of
-  picked-rest = at_listed deliveries (λ p. rest_of energy s p) row (held.sized.delivery_set row held.picked.is_left) ∙ sym held.picked.is_rest
+  picked-rest = at_listed task.deliveries (λ p. rest_of task.energy s p) pick.row (held.sized.delivery_set pick.row held.picked.is_left) ∙ sym held.picked.is_rest
 
   -- the step tries an engine exactly where it is open and the code's test holds
-  pub tried : (kind : Kind) (i : ℕ) → has s.«open» i ≡ true → Holds kind rest (at s.amount i) → tries kind state row i ≡ true
-  tried laying i h l = lay_can state row i (omega (arith, open_amount i h, picked-rest, (held.kept.engines.remains i h).least))
-  tried cutting i h l = cut_can state row i (omega (arith, open_amount i h, picked-rest, (held.kept.engines.remains i h).least))
+  pub tried : (kind : Kind) (i : ℕ) → has s.«open» i ≡ true → Holds kind pick.rest (at s.amount i) → tries kind state pick.row i ≡ true
+  tried laying i h l = lay_can state pick.row i (omega (arith, open_amount i h, picked-rest, (held.kept.engines.remains i h).least))
+  tried cutting i h l = cut_can state pick.row i (omega (arith, open_amount i h, picked-rest, (held.kept.engines.remains i h).least))
 
-  pub not-tried : (kind : Kind) (i : ℕ) → has s.«open» i ≡ true → Fails kind rest (at s.amount i) → tries kind state row i ≡ false
+  pub not-tried : (kind : Kind) (i : ℕ) → has s.«open» i ≡ true → Fails kind pick.rest (at s.amount i) → tries kind state pick.row i ≡ false
   unfolding can_lay can_cut
   not-tried laying i h l =
-      rw (lt-leb (at state.rest row) (at state.remaining i) (omega (arith, open_amount i h, picked-rest)), and-false)
+      rw (lt-leb (at state.rest pick.row) (at state.remaining i) (omega (arith, open_amount i h, picked-rest)), and-false)
   not-tried cutting i h l =
-      rw (le-ltb (at state.remaining i) (at state.rest row) (omega (arith, open_amount i h, picked-rest)), and-false)
+      rw (le-ltb (at state.remaining i) (at state.rest pick.row) (omega (arith, open_amount i h, picked-rest)), and-false)
 
-  pub closed : (kind : Kind) (i : ℕ) → has s.«open» i ≡ false → tries kind state row i ≡ false
+  pub closed : (kind : Kind) (i : ℕ) → has s.«open» i ≡ false → tries kind state pick.row i ≡ false
   unfolding can_lay can_cut
   closed laying i h = rw (le-ltb 0 (at state.remaining i) (omega (arith, closed-amount i h)), false-and)
   closed cutting i h = rw (le-ltb 0 (at state.remaining i) (omega (arith, closed-amount i h)), false-and)
 
   -- the piece is the one that the code writes
-  pub written-piece : (kind : Kind) (i : ℕ) → has s.«open» i ≡ true → piece kind state row i ≡ writes kind rest (at s.amount i)
+  pub written-piece : (kind : Kind) (i : ℕ) → has s.«open» i ≡ true → piece kind state pick.row i ≡ writes kind pick.rest (at s.amount i)
   written-piece laying i h = picked-rest
   written-piece cutting i h = open_amount i h
 
   -- a try lowers the size
-  pub smaller : (kind : Kind) (i : ℕ) → tries kind state row i ≡ true → size (after kind state row i) < size state
+  pub smaller : (kind : Kind) (i : ℕ) → tries kind state pick.row i ≡ true → size (after kind state pick.row i) < size state
   smaller laying i e =
-      size-laying state row i
+      size-laying state pick.row i
       (omega (arith, picked-rest, (rest_range held.kept held.picked).least)) e
-  smaller cutting i e = size-cutting state row i e
+  smaller cutting i e = size-cutting state pick.row i e

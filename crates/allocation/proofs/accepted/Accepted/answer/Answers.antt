@@ -1,0 +1,13 @@
+-- By mode.
+use Rattle.planning.specs.ByValue.{plan_in}
+use Rattle.allocation.specs.Laws.Modes.{answered-at, fixed-planned, shortest-planned}
+use Rattle.allocation.proofs.accepted.Accepted.answer.Goals as goal
+
+pub returns-in-Fixed : goal.returns-in-Fixed
+unfolding plan_in
+returns-in-Fixed c =
+    rw (fixed-planned (plan_in c.args.self.now.plan) c.in-Fixed.is) (answered-at _ _ c.search_at.ensures c.answer_of.ensures)
+
+pub returns-in-Shortest : goal.returns-in-Shortest
+unfolding plan_in
+returns-in-Shortest c = rw (shortest-planned (plan_in c.args.self.now.plan) c.in-Shortest.is) c.shortest.ensures

@@ -1,2 +1,0 @@
--- What proofs here and of callers cite beside a function's own.
-pub mod Stopped

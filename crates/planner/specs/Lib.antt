@@ -1,2 +1,0 @@
--- What the planner reads.
-pub mod Input

@@ -1,0 +1,20 @@
+-- `name` meets its contract: the part, or the value undone.
+use Rattle.std.proofs.Common.{sym, ap, ◌∙◌, arith}
+use Rattle.rfc4180.specs.Fields.{field_value}
+use Rattle.planreader.specs.Laws.Names.{name-part, name-undone, name_too_long}
+use Rattle.planreader.proofs.entry.Entry.name.Goals as goal
+
+-- without a doubled quote
+pub returns-then-not-self : goal.returns-then-not-self
+returns-then-not-self c value e =
+    name-part _ value _ (ap field_value c.raw-field.ensures ∙ e) c.part_of-inside.ensures
+    (sym ((c.args.self.now.cut.stand 1 (omega (arith, c.requires.0)) (omega arith)).quotes e) ∙ c.if-not-self.true)
+
+pub returns-in-Ok : goal.returns-in-Ok
+returns-in-Ok c value e =
+    name-undone _ value _ (ap field_value c.raw-field.ensures ∙ e) c.part_of-inside.ensures _ c.requires.1 c.undo.ensures _ c.in-Ok.is
+
+-- too long
+pub returns-in-Err : goal.returns-in-Err
+returns-in-Err c value e =
+    name_too_long _ value _ (ap field_value c.raw-field.ensures ∙ e) c.part_of-inside.ensures _ c.requires.1 c.undo.ensures c.in-Err.is

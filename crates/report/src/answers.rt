@@ -1,0 +1,50 @@
+// Modes, answers and refusals as the test programs print them.
+ghost use Rattle.std.specs.Prelude.{◌≡◌, [], ◌∷◌, codes};
+ghost use Rattle.planning.specs.Refusals.{fault_number};
+ghost use Rattle.report.specs.Answers.{mode_name, answer_words};
+ghost use Rattle.report.specs.Page.{page_of};
+ghost use Rattle.report.specs.Words.{word_texts};
+
+use crate::page::Page;
+use crate::pages::words_page;
+use planning::{Answer, Mode, Outcome, Refusal};
+
+// A mode as a plan file names it.
+#[tactic(auto, unfolding(crate::specs::Answers::mode_name))]
+pub fn mode_name(mode: Mode) -> &'static [u8]
+    ensures { result.now ≡ mode_name mode }
+{
+    match mode {
+        Mode::Fixed => b"fixed",
+        Mode::Shortest => b"shortest",
+    }
+}
+
+// What is printed of an answer before its numbers.
+#[tactic(auto, unfolding(crate::specs::Answers::answer_words))]
+fn answer_words(outcome: Outcome) -> &'static [u8]
+    ensures { result.now ≡ answer_words outcome }
+{
+    match outcome {
+        Outcome::Found => b"found # #",
+        Outcome::None => b"none # #",
+        Outcome::Stopped => b"stopped # #",
+    }
+}
+
+// An answer, its minutes and its tries.
+pub fn answer_page(answer: Answer) -> Page
+    ensures { result ≡ page_of (word_texts (answer_words answer.outcome) (answer.minutes ∷ answer.tries ∷ [])) }
+{
+    words_page(
+        answer_words(answer.outcome),
+        &[answer.minutes, answer.tries],
+    )
+}
+
+// A refusal by its fault's number and its place.
+pub fn refusal_page(refusal: Refusal) -> Page
+    ensures { result ≡ page_of (word_texts (codes "refused # #") (fault_number refusal.fault ∷ refusal.place ∷ [])) }
+{
+    words_page(b"refused # #", &[u64::from(refusal.fault), refusal.place])
+}
