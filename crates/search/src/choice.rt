@@ -8,7 +8,7 @@ ghost use Rattle.search.specs.Layout.{remaining_at, Kept, SlotOf};
 ghost use Rattle.search.specs.Sets.{has, Others};
 ghost use Rattle.search.specs.Steps.{IsDelivery, IsBulkiest, IsTurn};
 
-use crate::members::Members;
+use crate::members::{Members, has};
 use crate::state::{Pick, State, Task};
 use planning::MOST_ENGINES;
 
@@ -24,8 +24,8 @@ pub(crate) enum Turn {
 // A delivery left, and the limit that is left of its LIMIT, which is the most engines it may be drawn from, by the set of engines that
 // serve it already.
 #[derive(Clone, Copy)]
-struct Candidate {
-    pick: Pick,
+pub(crate) struct Candidate {
+    pub pick: Pick,
     limit: u8,
     served: u16,
     most: u8,
@@ -57,13 +57,13 @@ fn closed(open: u16) -> u16
 
 // The slot of a delivery left, where it is begun. Slots of open engines are free, so the closed ones alone are looked at: a pass over all
 // slots, made for every delivery that is begun, would cost each try. One that is begun has a slot among them, so
-// the pass ends there.
-pub(crate) fn slot_of(s: &State, p: usize) -> Option<usize>
+// the pass ends there: the last `None` is never reached for a begun delivery.
+fn slot_of(s: &State, p: usize) -> Option<usize>
     requires kept { (energy limit : List ℕ) × Kept energy limit s.now }
     requires is_left { has s.now.left p ≡ true }
     ensures { SlotOf s.now.untouched s.now.served s.now.row p result }
 {
-    if (s.untouched >> p) % 2 == 1 {
+    if has(s.untouched, p) {
         return None;
     }
     for k in Members(u64::from(closed(s.open))) {
@@ -90,35 +90,20 @@ fn one_more_is_limit(served: u16, most: u8) -> bool
     served.count_ones() + 1 == u32::from(most)
 }
 
-// Delivery p of those left.
-fn candidate_at(p: usize, s: &State, task: &Task) -> Candidate
+// Delivery p of those left: its energy and no engines, or what its slot has.
+pub(crate) fn candidate_at(p: usize, s: &State, task: &Task) -> Candidate
     requires kept { Kept task.now.energy task.now.limit s.now }
     requires is_left { has s.now.left p ≡ true }
     ensures { IsDelivery task.now.energy task.now.limit s.now p result }
 {
-    let most = task.limit[p];
     let slot = slot_of(s, p);
-    match slot {
-        None => Candidate {
-            pick: Pick {
-                row: p,
-                slot,
-                rest: task.energy[p],
-            },
-            limit: most,
-            served: 0,
-            most,
-        },
-        Some(k) => Candidate {
-            pick: Pick {
-                row: p,
-                slot,
-                rest: s.amount[k],
-            },
-            limit: limit_left(most, s.served[k]),
-            served: s.served[k],
-            most,
-        },
+    let (rest, served) = slot.map_or((task.energy[p], 0), |k| (s.amount[k], s.served[k]));
+    let most = task.limit[p];
+    Candidate {
+        pick: Pick { row: p, slot, rest },
+        limit: limit_left(most, served),
+        served,
+        most,
     }
 }
 
@@ -130,11 +115,7 @@ fn bulkiest(s: &State, task: &Task) -> Option<Candidate>
     let mut best = None;
     for p in Members(s.left) {
         let next = candidate_at(p, s, task);
-        let comes_first = match best {
-            None => true,
-            Some(first) => bulkier(next, first),
-        };
-        if comes_first {
+        if best.is_none_or(|first| bulkier(next, first)) {
             best = Some(next);
         }
     }
@@ -147,14 +128,10 @@ fn smallest(s: &State) -> u32
     ensures { (engines : ℕ) → ((i : ℕ) → has s.now.«open» i ≡ true → i < engines)
         → result ≡ smallest_of (listed engines (λ i. remaining_at s.now.«open» s.now.amount i)) engines }
 {
-    let mut least: u32 = 0;
-    for i in Members(u64::from(s.open)) {
-        let remaining = s.amount[i];
-        if least == 0 || remaining < least {
-            least = remaining;
-        }
-    }
-    least
+    Members(u64::from(s.open))
+        .map(|i| s.amount[i])
+        .min()
+        .unwrap_or(0)
 }
 
 // The step that applies to a state.

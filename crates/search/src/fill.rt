@@ -5,7 +5,8 @@ ghost use Rattle.planning.specs.Tables.{listed};
 ghost use Rattle.planning.specs.Search.{drawn, undrawn, straight_fill};
 ghost use Rattle.search.specs.Layout.{remaining_at, rest_of as rest_left, Kept, Room};
 
-use crate::choice::slot_of;
+use crate::choice::candidate_at;
+use crate::members::has;
 use crate::state::{State, Task};
 use planning::MOST_ENGINES;
 
@@ -15,12 +16,10 @@ fn rest_of(p: usize, s: &State, task: &Task) -> u32
     requires inside { p < most_deliveries }
     ensures { result ≡ rest_left task.now.energy s.now p }
 {
-    if (s.left >> p) % 2 == 0 {
-        return 0;
-    }
-    match slot_of(s, p) {
-        None => task.energy[p],
-        Some(k) => s.amount[k],
+    if has(s.left, p) {
+        candidate_at(p, s, task).pick.rest
+    } else {
+        0
     }
 }
 
@@ -30,7 +29,7 @@ fn open_amounts(s: &State) -> [u32; MOST_ENGINES]
 {
     let mut out = s.amount;
     for (i, remaining) in out.iter_mut().enumerate() {
-        if (s.open >> i) % 2 == 0 {
+        if !has(u64::from(s.open), i) {
             *remaining = 0;
         }
     }
@@ -43,10 +42,11 @@ fn fill_row(row: &mut [u64], mut rest: u32, remaining: &mut [u32])
     ensures drawn { row.new ≡ drawn rest remaining.old }
     ensures remains { remaining.new ≡ undrawn rest remaining.old }
 {
-    for i in 0..row.len() {
-        let piece = rest.min(remaining[i]);
+    // The row is written by index: over a zip of both slices, tried, what they hold at the end did not prove.
+    for (i, left) in remaining.iter_mut().enumerate() {
+        let piece = rest.min(*left);
         row[i] = u64::from(piece);
-        remaining[i] -= piece;
+        *left -= piece;
         rest -= piece;
     }
 }
@@ -61,6 +61,7 @@ pub(crate) fn straight(s: &State, task: &Task, table: &mut [u64])
         (listed task.now.engines (λ i. remaining_at s.now.«open» s.now.amount i)) }
 {
     let mut remaining = open_amounts(s);
+    // Rows by index: `chunks_exact_mut` takes no rows of length 0, and there may be no engines.
     for p in 0..task.deliveries {
         let from = p * task.engines;
         fill_row(

@@ -1,6 +1,5 @@
 // Whether a search's numbers are in range.
 ghost use Rattle.std.specs.Prelude.{◌≡◌, true, ◌↔◌, length};
-ghost use Rattle.planning.specs.Plan.{Within};
 ghost use Rattle.search.specs.Promises.{CountsInRange, InSearchRange};
 
 use planning::{MOST_DELIVERIES, MOST_ENERGY, MOST_ENGINES, MOST_FUEL, MOST_LIMIT, MOST_TRIES};
@@ -16,13 +15,6 @@ fn counts(capacities: &[u32], energies: &[u32], limits: &[u8], allowance: u32, c
         && u64::from(allowance) <= MOST_TRIES
 }
 
-// Whether a number is low to high.
-fn within(number: u64, low: u64, high: u64) -> bool
-    ensures { (result ≡ true) ↔ Within low high number }
-{
-    low <= number && number <= high
-}
-
 // Whether all are, for a table of so many cells.
 pub(crate) fn in_range(
     capacities: &[u32],
@@ -35,6 +27,10 @@ pub(crate) fn in_range(
 {
     counts(capacities, energies, limits, allowance, cells)
         && capacities.iter().all(|x| u64::from(*x) <= MOST_FUEL)
-        && energies.iter().all(|&x| within(x.into(), 1, MOST_ENERGY))
-        && limits.iter().all(|&x| within(x.into(), 1, MOST_LIMIT))
+        && energies
+            .iter()
+            .all(|&x| (1..=MOST_ENERGY).contains(&u64::from(x)))
+        && limits
+            .iter()
+            .all(|&x| (1..=MOST_LIMIT).contains(&u64::from(x)))
 }

@@ -92,7 +92,7 @@ unfolding smaller
 smaller-first zero = refl
 smaller-first (suc c) = refl
 
-smaller-min : (m c : ℕ) → 0 < m → 0 < c → smaller m c ≡ min m c
+pub smaller-min : (m c : ℕ) → 0 < m → 0 < c → smaller m c ≡ min m c
 unfolding smaller
 smaller-min m zero p q = absurd (omega arith)
 smaller-min zero (suc c) p q = absurd (omega arith)

@@ -2,15 +2,19 @@
 -- is begun has one, so the pass does not end without it.
 use Rattle.std.proofs.Common.{◌≡◌, ◌<◌, sym, ◌∙◌, arith}
 use Rattle.planning.specs.Bounds.{most_engines}
+use Rattle.search.specs.Laws.Layout.Deliveries.{left-inside}
 use Rattle.search.specs.Laws.Layout.Lookup.{none-next, inside, found_before}
 use Rattle.search.specs.Laws.Layout.Serving.{open_below}
 use Rattle.search.specs.Laws.Layout.Slots.{holds_by, holds-free, holds-other, holds-inside}
-use Rattle.search.specs.Laws.Members.{member, no_member}
 use Rattle.search.proofs.choice.slot_of.Goals as goal
 use Rattle.search.proofs.choice.slot_of.Goals.{else-from-p-via-then-from-p+else-s-k-ne0, else-from-p-via-else-from-p}
 
-pub returns-then-s-p-eq1 : goal.returns-then-s-p-eq1
-returns-then-s-p-eq1 c = record { fresh = λ e. member _ _ c.if-s-p-eq1.true; begun = λ k e. cc }
+pub has-requires : goal.has-requires
+has-requires c =
+    let kept = c.requires.kept.2 in omega (arith, left-inside kept.deliveries c.args.p c.requires.is_left, kept.arrays.energies)
+
+pub returns-then-has : goal.returns-then-has
+returns-then-has c = record { fresh = λ e. sym c.has.ensures ∙ c.if-has.true; begun = λ k e. cc }
 
 pub closed-requires : goal.closed-requires
 closed-requires c = open_below c.requires.kept.2.engines most_engines (omega (arith, c.requires.kept.2.arrays.amounts))
@@ -39,7 +43,7 @@ returns-then-s-k-ne0 c =
       fresh = λ e. cc;
       begun = λ k e.
           let same : c.in-Some.k ≡ k = cc e in (
-            no_member _ _ c.if-s-p-eq1.false,
+            sym c.has.ensures ∙ c.if-has.false,
             rw (← same) (holds_by _ _ _ _ (omega (arith, c.if-s-k-ne0.true)) (sym c.from-in-loop-k.ensures ∙ c.if-from-p.true)),
           );
     }
@@ -58,7 +62,7 @@ loop-k-preserved c =
 pub returns : goal.returns
 returns c =
     let kept = c.requires.kept.2 in
-    let own = kept.deliveries.slotted c.args.p c.requires.is_left (no_member _ _ c.if-s-p-eq1.false) in
+    let own = kept.deliveries.slotted c.args.p c.requires.is_left (sym c.has.ensures ∙ c.if-has.false) in
     absurd
     (found_before kept.engines.free c.closed.ensures
     (rw (c.into_iter-k-iterator.ensures.into_iter_gives, c.from.ensures) at c.loop-k.invariant)

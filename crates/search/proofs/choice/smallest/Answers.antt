@@ -1,52 +1,81 @@
--- The next open engine is one of the arrays' own, and what remains of it is above 0.
-use Rattle.std.proofs.Common.{List, ℕ, ◌≤◌, ◌<◌, sym, inl, inr}
+-- A pass over the open engines, each of which is one of the arrays' own and has something remaining: the least of their amounts is the
+-- smallest remaining, and where there are none it is 0.
+use Rattle.std.proofs.Common.{rules, ◌≡◌, refl, true, List, ℕ, suc, [], ◌∷◌, ◌≤◌, ◌<◌, min, sym, ◌∙◌, arith}
+use Rattle.std.proofs.Common.{inl, Option, Some, None, unwrap_or, Ordering, Less, Equal, Greater}
+use Rattle.std.specs.List.{FoldsTo}
+use denote.Param.Members.{Mut}
+use Rattle.std.specs.Fn.{Called}
+use Rattle.std.specs.Iterator.Adapters.{map_steps, map_source, map_callee}
+use Rattle.std.specs.declared.iter.Map.{Map}
+use Rattle.std.specs.Iterator.{Yields, PicksByCmp}
+use Rattle.std.specs.Ordering.{nat_cmp, min_by_ordering, MatchOrdering}
+use Rattle.std.specs.Cmp.{ranks}
 use Rattle.planning.specs.Bounds.{most_engines}
 use Rattle.planning.specs.Tables.{at}
-use Rattle.search.specs.declared.state.State.{State}
+use Rattle.search.specs.declared.members.Members.{Members}
 use Rattle.search.specs.Laws.Layout.Picked.{engine-below}
-use Rattle.search.specs.Laws.Passes.{LeastSoFar, Next, next-taken, smaller-taken, smaller-kept, least_start, least-next, least-end}
-use Rattle.search.specs.Layout.{Kept}
-use Rattle.search.specs.Members.{IsLeast}
+use Rattle.search.specs.Laws.Passes.{Ahead, ahead-all, LeastSoFar, next-taken, smaller-taken, smaller-min, least_start, least-next, least-end}
+use Rattle.search.specs.Members.{TakesLeast}
+use Rattle.search.specs.Sets.{has}
 use Rattle.search.proofs.choice.smallest.Goals as goal
-use Rattle.search.proofs.choice.smallest.Goals.{then-least-eq0-via-then-least-eq0, then-least-eq0-via-else-least-eq0+then-remaining-least}
 
-module _ {energy limit : List ℕ} {s : State} {set least i others : ℕ} (kept : Kept energy limit s) (sofar : LeastSoFar s.«open» s.amount set least)
-    (taken : IsLeast set i others) where
-  -- the next open engine
-  next : Next s.«open» set sofar.front i
-  next = next-taken sofar.ahead taken
+-- what is left of a pass is ahead of it
+ahead_after : {all n : ℕ} (xs : List ℕ) (s t : Members) → Ahead all s.0 n → Yields TakesLeast s xs t → (m : ℕ) × Ahead all t.0 m
+ahead_after {n = n} [] s t a e = rw (← e) (n, a)
+ahead_after {all} (i ∷ xs) s t a (j, taken, rest) =
+    let more : Ahead all j.0 (suc i) = rw taken.without (next-taken a taken).ahead in ahead_after {n = suc i} xs j t more rest
 
-  inside : i < most_engines
-  inside = engine-below kept i next.member
+pub min-requires-clause-can : goal.min-requires-clause-can
+min-requires-clause-can c = (
+  tt,
+  record {
+    at = λ xs t q x u before folds taken.
+        let start : Ahead c.args.s.now.«open» c.map.result.iter.0 0 = rw (c.map.ensures.source, c.from.ensures) (ahead-all _) in
+        let inside : x < most_engines = engine-below c.requires.2 x (next-taken (ahead_after {n = 0} xs _ t start before).1 taken).member in
+        search (rules, inside);
+  },
+)
 
-  above : 1 ≤ at s.amount i
-  above = (kept.engines.remains i next.member).least
+-- the lesser of two numbers, as `min` picks it
+lesser : (m c : ℕ) → min_by_ordering (nat_cmp m c) m c ≡ min m c
+lesser m c = go (nat_cmp m c) (ranks m c)
+  where
+    go : (o : Ordering) → MatchOrdering o (m < c) (m ≡ c) (c < m) → min_by_ordering o m c ≡ min m c
+    go Less l = omega arith
+    go Equal e = omega arith
+    go Greater l = omega arith
 
-pub loop-i-init : goal.loop-i-init
-loop-i-init c = rw (c.into_iter-i-iterator.ensures.into_iter_gives, c.from.ensures) (least_start _ _)
+-- the least amount of a pass over the open engines, each of which a call takes to its amount
+module _ {F : Type 0} (g : Mut F (ℕ × Unit {0}) ℕ) (f : F) (opened : ℕ) (amount : List ℕ)
+    (above : (i : ℕ) → has opened i ≡ true → 1 ≤ at amount i)
+    (reads : (i x : ℕ) (h : F) → Called g f (i, tt) x h → (h ≡ f) × (x ≡ at amount i)) where
+  goes : (xs : List ℕ) (best y : ℕ) (s t : Map Members F) → map_callee s ≡ f → LeastSoFar opened amount (map_source s).0 best → 1 ≤ best
+      → Yields (map_steps TakesLeast g) s xs t → FoldsTo (λ b x n. n ≡ min_by_ordering (nat_cmp b x) b x) best xs y
+      → LeastSoFar opened amount (map_source t).0 y
+  goes [] best y s t is sofar l e h = rw (← e, ← h) sofar
+  goes (x ∷ xs) best y s t is sofar l (u, (i, taken, called), rest) (next, picked, later) =
+      let read = reads i x (map_callee u) (rw is at called) in
+      let positive = above i (next-taken sofar.ahead taken).member in
+      let less : next ≡ min best x = picked ∙ lesser best x in
+      goes xs next y u t read.0 (least-next sofar taken (omega (arith, less, read.1, smaller-min best (at amount i) l positive)))
+      (omega (arith, less, read.1, positive)) rest later
 
-pub bounds-s-i : goal.bounds-s-i
-bounds-s-i c = inside c.requires.2 c.loop-i.invariant c.in-Some.ensures.steps
-
-pub loop-i-preserved-in-loop-i : goal.loop-i-preserved-in-loop-i
-loop-i-preserved-in-loop-i c =
-    let kept = c.requires.2 in
-    let sofar = c.loop-i.invariant in
-    let taken = c.in-Some.ensures.steps in
-    least-next sofar taken
-    (sym
-    (smaller-taken _ _ (above kept sofar taken)
-    (elim c.then-least-eq0.branch [
-      | then-least-eq0-via-then-least-eq0 w ↦ inl w.if-least-eq0.true
-      | then-least-eq0-via-else-least-eq0+then-remaining-least w ↦ inr w.if-remaining-least.true
-    ])))
-
-pub loop-i-preserved : goal.loop-i-preserved
-loop-i-preserved c =
-    let kept = c.requires.2 in
-    let sofar = c.loop-i.invariant in
-    let taken = c.in-Some.ensures.steps in
-    least-next sofar taken (sym (smaller-kept _ _ (above kept sofar taken) c.if-least-eq0.false c.if-remaining-least.false))
+  least_of_pass : (s : Map Members F) → map_callee s ≡ f → (map_source s).0 ≡ opened → (r : Option ℕ)
+      → PicksByCmp (map_steps TakesLeast g) min_by_ordering nat_cmp s r
+      → (set : ℕ) × (set ≡ 0) × LeastSoFar opened amount set (unwrap_or r 0)
+  least_of_pass s is e None (u, (t, same, none)) = ((map_source t).0, none.0, rw (← same, e) (least_start opened amount))
+  least_of_pass s is e (Some y) (x, xs, (v, (t, (u, (i, taken, called), rest), none)), folds) =
+      let read = reads i x (map_callee u) (rw is at called) in
+      let start : LeastSoFar opened amount (map_source s).0 0 = rw e (least_start opened amount) in
+      let positive = above i (next-taken start.ahead taken).member in
+      let first : LeastSoFar opened amount (map_source u).0 x = least-next start taken (read.1 ∙ sym (smaller-taken 0 (at amount i) positive (inl refl))) in
+      ((map_source t).0, none.0, goes xs x y u t read.0 first (omega (arith, read.1, positive)) rest folds)
 
 pub returns : goal.returns
-returns c = least-end c.args.s.now.«open» c.args.s.now.amount c.loop-i.i-iterator.0 c.loop-i.least c.in-None.ensures.steps c.loop-i.invariant
+returns c =
+    let opened = c.args.s.now.«open» in
+    let from : c.map.result.iter.0 ≡ opened = rw (c.map.ensures.source, c.from.ensures) refl in
+    let (set, none, least) =
+    least_of_pass _ _ opened c.args.s.now.amount (λ i m. (c.requires.2.engines.remains i m).least)
+    (λ i x h called. search rules) c.map.result c.map.ensures.closure from _ c.min.ensures.ran in λ engines inside.
+    c.unwrap_or.ensures ∙ least-end _ _ set _ none least engines inside

@@ -7,10 +7,10 @@ use Rattle.planning.specs.Bounds.{most_engines}
 use Rattle.planning.proofs.Laws.Finite.Decisions.{le-or-lt}
 use Rattle.planning.proofs.Laws.Tables.{length-listed, at_listed}
 use Rattle.planning.specs.Tables.{listed, at}
-use Rattle.search.specs.Laws.Members.{member, no_member, remaining_open, remaining-closed}
+use Rattle.search.specs.Laws.Members.{remaining_open, remaining-closed}
 use Rattle.search.specs.Layout.{remaining_at}
 use Rattle.search.proofs.fill.open_amounts.Goals as goal
-use Rattle.search.proofs.fill.open_amounts.Goals.{then-s-i-eq0, else-s-i-eq0}
+use Rattle.search.proofs.fill.open_amounts.Goals.{then-not-has, else-not-has}
 
 -- the first i numbers are what remains, and the others the amounts
 abbrev Amounts : (opened : ℕ) → (amount out : List ℕ) → ℕ → Type 0
@@ -41,16 +41,16 @@ loop-i-preserved c =
     let amount = c.args.s.now.amount in
     let items = c.loop-i.remaining-items in
     let i = c.loop-i.i in
-    elim c.if-s-i-eq0.branch [
-      | then-s-i-eq0 w ↦
+    elim c.if-not-has.branch [
+      | then-not-has w ↦
           rw w.remaining-items-is
           (turn opened amount items (set items i 0) i c.loop-i.invariant
-          (cleared items i ∙ sym (remaining-closed opened amount i (no_member opened i (λ e. omega (arith, w.if-s-i-eq0.true)))))
+          (cleared items i ∙ sym (remaining-closed opened amount i (rw c.from.ensures at (sym c.has.ensures ∙ w.if-not-has.true))))
           (λ k n. get_or-set_other items i k 0 0 n))
-      | else-s-i-eq0 w ↦
+      | else-not-has w ↦
           rw (w.remaining-items-is, set-get_or)
           (turn opened amount items items i c.loop-i.invariant
-          (c.loop-i.invariant.1 i (omega arith) ∙ sym (remaining_open opened amount i (member opened i (omega (arith, w.if-s-i-eq0.false)))))
+          (c.loop-i.invariant.1 i (omega arith) ∙ sym (remaining_open opened amount i (rw c.from.ensures at (sym c.has.ensures ∙ w.if-not-has.false))))
           (λ k n. refl))
     ]
 
