@@ -50,8 +50,9 @@ pub(crate) fn capacities(engines: &Engines, minutes: u64) -> [u32; MOST_ENGINES]
 {
     let runs = running(&engines.quiet, minutes as u16);
     let mut out = [0; MOST_ENGINES];
-    for (i, figures) in engines.figures[..engines.count].iter().enumerate() {
-        out[i] = capacity(*figures, runs[i]);
+    let figures = &engines.figures[..engines.count];
+    for (i, (figures, running)) in figures.iter().zip(runs.iter()).enumerate() {
+        out[i] = capacity(*figures, *running);
     }
     out
 }

@@ -40,10 +40,10 @@ fn figures_of(watts: &[u64], fuels: &[u64]) -> [EngineFigures; MOST_ENGINES]
     ensures { result ≡ filled no_figures most_engines (figures_by watts.now fuels.now) }
 {
     let mut figures = [EngineFigures { watts: 0, fuel: 0 }; MOST_ENGINES];
-    for (i, watts) in watts.iter().enumerate() {
+    for (i, (watts, fuel)) in watts.iter().zip(fuels).enumerate() {
         figures[i] = EngineFigures {
             watts: *watts as u32,
-            fuel: fuels[i] as u32,
+            fuel: *fuel as u32,
         };
     }
     figures
@@ -60,9 +60,9 @@ fn deliveries_of(energies: &[u64], limits: &[u64]) -> Deliveries
 {
     let mut energy = [0; MOST_DELIVERIES];
     let mut limit = [0; MOST_DELIVERIES];
-    for (p, wh) in energies.iter().enumerate() {
+    for (p, (wh, most)) in energies.iter().zip(limits).enumerate() {
         energy[p] = *wh as u32;
-        limit[p] = limits[p] as u8;
+        limit[p] = *most as u8;
     }
     Deliveries {
         count: energies.len(),

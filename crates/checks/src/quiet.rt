@@ -3,7 +3,7 @@ ghost use Rattle.std.specs.Prelude.{◌≡◌, []};
 ghost use Rattle.planning.specs.Numbers.{quiet_of, quiet_fault, check_quiet};
 ghost use Rattle.planning.specs.Refusals.{verdict_of};
 
-use crate::refusals::{is_within, refused};
+use crate::refusals::refused;
 use planning::{Fault, MOST_MINUTES, Refusal, span_fits};
 
 // Three numbers each; of so many engines.
@@ -21,10 +21,10 @@ pub(crate) fn spans(quiet: &[u64], engines: u64) -> Result<(), Refusal>
 fn span(earlier: &[u64], engine: u64, from: u64, to: u64, engines: u64) -> Result<(), Refusal>
     ensures { result ≡ verdict_of (quiet_fault engines (quiet_of earlier.now) (record { engine = engine; span = record { from = from; to = to } })) }
 {
-    if !is_within(0, MOST_MINUTES, from) || !is_within(0, MOST_MINUTES, to) {
+    if !(0..=MOST_MINUTES).contains(&from) || !(0..=MOST_MINUTES).contains(&to) {
         return Err(refused(Fault::Value, 0));
     }
-    if !is_within(1, engines, engine) {
+    if !(1..=engines).contains(&engine) {
         return Err(refused(Fault::UnknownEngine, 0));
     }
     if !span_fits(earlier, engine, from, to) {

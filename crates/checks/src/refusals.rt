@@ -1,7 +1,7 @@
 // The refusals on numbers, in the documents' order.
 ghost use Rattle.std.specs.Prelude.{◌≡◌, ◌<◌, not, length, position, IfSome};
 ghost use Rattle.std.specs.List.{zip};
-ghost use Rattle.planning.specs.Numbers.{refusal_of, within};
+ghost use Rattle.planning.specs.Numbers.{refusal_of};
 ghost use Rattle.planning.specs.Refusals.{verdict_of};
 ghost use Rattle.checks.specs.Checked.{call_lent};
 ghost use Rattle.checks.specs.Parts.{counts_refusal, values_refusal, engine_sound, delivery_sound};
@@ -49,7 +49,9 @@ fn values(lists: PlanLists) -> Result<(), Refusal>
     requires deliveries { length lists.energies.now ≡ length lists.limits.now }
     ensures { result ≡ verdict_of (values_refusal (call_lent lists.entry 0 0)) }
 {
-    if !is_within(1, MOST_MINUTES, lists.minutes) || !is_within(0, MOST_TRIES, lists.allowance) {
+    if !(1..=MOST_MINUTES).contains(&lists.minutes)
+        || !(0..=MOST_TRIES).contains(&lists.allowance)
+    {
         return Err(refused(Fault::Value, 1));
     }
     if let Some(engine) = engine_outside(lists.watts, lists.fuels) {
@@ -62,21 +64,26 @@ fn values(lists: PlanLists) -> Result<(), Refusal>
 }
 
 // The first engine with a figure out of its range.
+#[tactic(auto, unfolding(planning::specs::Numbers::within))]
 fn engine_outside(watts: &[u64], fuels: &[u64]) -> Option<usize>
     ensures inside { IfSome result (λ i. i < length watts.now) }
     ensures first { result ≡ position (λ e. not (engine_sound e)) (zip watts.now fuels.now) }
 {
-    watts.iter().zip(fuels).position(|(w, f)| !(is_within(0, MOST_WATTS, *w)
-        && is_within(0, MOST_FUEL, *f)))
+    watts.iter().zip(fuels).position(|(w, f)| !((0..=MOST_WATTS).contains(w)
+        && (0..=MOST_FUEL).contains(f)))
 }
 
 // The first delivery with a figure out of its range.
+#[tactic(auto, unfolding(planning::specs::Numbers::within))]
 fn delivery_outside(energies: &[u64], limits: &[u64]) -> Option<usize>
     ensures inside { IfSome result (λ p. p < length energies.now) }
     ensures first { result ≡ position (λ d. not (delivery_sound d)) (zip energies.now limits.now) }
 {
-    energies.iter().zip(limits).position(|(e, l)| !(is_within(1, MOST_ENERGY, *e)
-        && is_within(1, MOST_LIMIT, *l)))
+    energies.iter().zip(limits).position(
+        |(energy, limit)| -> bool
+            ensures { result ≡ not (delivery_sound (energy.entry.now, limit.entry.now)) }
+        { !((1..=MOST_ENERGY).contains(energy) && (1..=MOST_LIMIT).contains(limit)) },
+    )
 }
 
 // A refusal at that place.
@@ -84,12 +91,4 @@ pub(crate) fn refused(fault: Fault, place: u64) -> Refusal
     ensures { result ≡ record { fault = fault; place = place } }
 {
     Refusal { fault, place }
-}
-
-// Whether a number is low to high.
-#[tactic(auto, unfolding(planning::specs::Numbers::within))]
-pub(crate) fn is_within(low: u64, high: u64, n: u64) -> bool
-    ensures { result ≡ within low high n }
-{
-    low <= n && n <= high
 }

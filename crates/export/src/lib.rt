@@ -166,10 +166,10 @@ pub extern "C" fn fothwen_allocate<'a>(
         limits,
         quiet,
     };
-    match allocation::allocate(lists, table, spare) {
-        Ok(answer) => (answer, 0).into(),
-        Err(refusal) => refusal.into(),
-    }
+    allocation::allocate(lists, table, spare).map_or_else(
+        PlanReply::from,
+        |answer| PlanReply::from((answer, 0)),
+    )
 }
 
 // `filecall::plan_file`.
@@ -184,10 +184,7 @@ pub extern "C" fn fothwen_plan_file(
         (call_with file.now table.old spare.old output.old)
         result table.new spare.new output.new }
 {
-    match filecall::plan_file(file, table, spare, output) {
-        Ok(answered) => answered.into(),
-        Err(refusal) => refusal.into(),
-    }
+    filecall::plan_file(file, table, spare, output).map_or_else(PlanReply::from, PlanReply::from)
 }
 
 // `lookup::spare_lookup`. Which engine it names is the program's choice.
@@ -195,8 +192,5 @@ pub extern "C" fn fothwen_plan_file(
 pub extern "C" fn fothwen_spare_lookup(spare: &[u64], amount: u64) -> LookupReply
     ensures { LookupReplied spare.now amount result }
 {
-    match lookup::spare_lookup(spare, amount) {
-        Ok(found) => found.into(),
-        Err(refusal) => refusal.into(),
-    }
+    lookup::spare_lookup(spare, amount).map_or_else(LookupReply::from, LookupReply::from)
 }

@@ -1,22 +1,22 @@
 -- At each return the tests passed so far, and the one that fails, decide the refusal.
 use Rattle.std.proofs.Common.{arith}
 use Rattle.std.proofs.lemmas.Bool.Decides.{nat_tests}
-use Rattle.planning.specs.Numbers.{quiet_fault}
+use Rattle.planning.specs.Numbers.{quiet_fault, within}
 use Rattle.planning.specs.Refusals.{check, ◌then◌, verdict_of}
 use Rattle.checks.proofs.quiet.span.Goals as goal
 
-pub returns-then-not-is_within : goal.returns-then-not-is_within
-unfolding quiet_fault check ◌then◌ verdict_of
-returns-then-not-is_within c = grind (arith, nat_tests)
+pub returns-then-not-contains : goal.returns-then-not-contains
+unfolding quiet_fault within check ◌then◌ verdict_of
+returns-then-not-contains c = grind (arith, nat_tests)
 
-pub returns-then-not-is_within-3 : goal.returns-then-not-is_within-3
-unfolding quiet_fault check ◌then◌ verdict_of
-returns-then-not-is_within-3 c = grind (arith, nat_tests)
+pub returns-then-not-contains-3 : goal.returns-then-not-contains-3
+unfolding quiet_fault within check ◌then◌ verdict_of
+returns-then-not-contains-3 c = grind (arith, nat_tests)
 
 pub returns-then-not-span_fits : goal.returns-then-not-span_fits
-unfolding quiet_fault check ◌then◌ verdict_of
+unfolding quiet_fault within check ◌then◌ verdict_of
 returns-then-not-span_fits c = grind (arith, nat_tests)
 
 pub returns : goal.returns
-unfolding quiet_fault check ◌then◌ verdict_of
+unfolding quiet_fault within check ◌then◌ verdict_of
 returns c = grind (arith, nat_tests)
