@@ -35,7 +35,7 @@ fn planned(plan: &FilePlan, pieces: &mut [u64], spares: &mut [u64]) -> Answer
         fuels: &plan.engines.seconds[..engines],
         energies: &plan.deliveries.firsts[..deliveries],
         limits: &plan.deliveries.seconds[..deliveries],
-        quiet: &plan.quiet[..3 * plan.spans],
+        quiet: plan.quiet[..plan.spans].as_flattened(),
     };
     allocation::allocate(lists, pieces, spares).unwrap()
 }
@@ -102,14 +102,14 @@ pub(crate) fn aside(
     let mut own_table = [0u64; MOST_CELLS];
     let mut own_spare = [0u64; MOST_ENGINES];
     let mut made = [0u8; LONGEST_PRINT];
-    planning::copy(&*table, &mut own_table);
-    planning::copy(&*spare, &mut own_spare);
+    own_table.copy_from_slice(table);
+    own_spare.copy_from_slice(spare);
     let (answer, n) = in_place(file, &mut own_table, &mut own_spare, &mut made)?;
     let print = lines::write_bytes(&made[..n], output, 0);
     if print.is_err() {
         return Err(NO_SPACE);
     }
-    planning::copy(&own_table, table);
-    planning::copy(&own_spare, spare);
+    table.copy_from_slice(&own_table);
+    spare.copy_from_slice(&own_spare);
     Ok((answer, n))
 }

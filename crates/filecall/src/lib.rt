@@ -23,7 +23,8 @@ pub fn plan_file(
         result table.new spare.new output.new }
 {
     if LONGEST_PRINT <= output.len() || table.len() != MOST_CELLS || spare.len() != MOST_ENGINES {
-        return call::in_place(file, table, spare, output);
+        call::in_place(file, table, spare, output)
+    } else {
+        call::aside(file, table, spare, output)
     }
-    call::aside(file, table, spare, output)
 }

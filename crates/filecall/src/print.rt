@@ -109,18 +109,14 @@ pub(crate) fn write(
     ensures { PutLines (print_lines answer deliveries.now engines.now pieces.now)
         (output (Ok 0) out.old) (output result out.new) }
 {
-    let Answer {
-        outcome,
-        minutes,
-        tries,
-    } = answer;
-    match outcome {
+    match answer.outcome {
         Outcome::Found => {
-            let at = write_answer(b"found", minutes, tries, count_pieces(pieces), out)?;
+            let count = count_pieces(pieces);
+            let at = write_answer(b"found", answer.minutes, answer.tries, count, out)?;
             write_rows(deliveries, engines, pieces, out, at)
         }
-        Outcome::None => write_answer(b"none", minutes, tries, 0, out),
-        Outcome::Stopped => write_answer(b"stopped", minutes, tries, 0, out),
+        Outcome::None => write_answer(b"none", answer.minutes, answer.tries, 0, out),
+        Outcome::Stopped => write_answer(b"stopped", answer.minutes, answer.tries, 0, out),
     }
 }
 

@@ -1,11 +1,10 @@
 -- What `read` hands back of a file, as a value: the plan in columns, or a refusal.
 -- Assumes nothing.
-use Rattle.std.specs.Prelude.{ℕ, ◌*◌, ◌-◌, List, [], ◌++◌, map, length, replicate, Result, Ok, Err}
+use Rattle.std.specs.Prelude.{ℕ, ◌-◌, List, [], ◌∷◌, ◌++◌, map, length, replicate, Result, Ok, Err}
 use Rattle.planning.specs.declared.Refusal.{Refusal}
 use Rattle.planning.specs.Bounds.{most_engines, most_quiet, most_deliveries}
-use Rattle.planning.specs.Numbers.{triples_of}
 use Rattle.planning.specs.Quiet.{Quiet}
-use Rattle.planning.specs.Tables.{padded}
+use Rattle.planning.specs.Tables.{filled, padded}
 use Rattle.planfile.specs.FilePlan.{FilePlan, NamedEngine, NamedDelivery}
 use Rattle.planfile.specs.Reading.{Read, refused, accepted}
 use Rattle.planreader.specs.declared.FilePlan.{FilePlan as ByValue}
@@ -38,12 +37,16 @@ columns_of most items =
       seconds = padded most (map (λ (i : Item). i.second) items);
     }
 
+-- the three numbers of a quiet span
+abbrev pub three_of : Quiet → List ℕ
+three_of q = q.engine ∷ q.span.from ∷ q.span.to ∷ []
+
 -- the columns of a plan's engines, of its quiet spans, three numbers each, and of its deliveries
 abbrev pub engine_columns_of : List NamedEngine → Items most_engines
 engine_columns_of engines = columns_of most_engines (map engine_item engines)
 
-abbrev pub quiet_column_of : List Quiet → List ℕ
-quiet_column_of quiet = padded (3 * most_quiet) (triples_of quiet)
+abbrev pub quiet_column_of : List Quiet → List (List ℕ)
+quiet_column_of quiet = filled (0 ∷ 0 ∷ 0 ∷ []) most_quiet (map three_of quiet)
 
 abbrev pub delivery_columns_of : List NamedDelivery → Items most_deliveries
 delivery_columns_of deliveries = columns_of most_deliveries (map delivery_item deliveries)

@@ -1,6 +1,6 @@
 -- Where the fields of a record's text stand, and the text that a name is taken from.
 -- Assumes nothing.
-use Rattle.std.specs.Prelude.{◌≡◌, false, List, [], ℕ, ◌-◌, ◌≤◌, ◌<◌, min, length, take, drop, get_or}
+use Rattle.std.specs.Prelude.{◌≡◌, false, List, [], ℕ, ◌-◌, ◌≤◌, ◌<◌, length, take, drop, get_or}
 use Rattle.std.proofs.Math.Option.{none, some}
 use Rattle.rfc4180.specs.Fields.{raw_fields, field_value, field_values}
 use Rattle.csv_fields.specs.Spans.{holds_quote}
@@ -27,9 +27,9 @@ pub record Place (text : List ℕ) (place : FieldPlace) (field : List ℕ) : Typ
 abbrev pub Places : (text : List ℕ) → List FieldPlace → (count : ℕ) → (fields : List (List ℕ)) → Type 0
 Places text places count fields = (j : ℕ) → j < count → j < 4 → Place text (get_or places j nowhere) (get_or fields j [])
 
--- a record's text that keeps the grammar, and where its fields stand
-pub record IsCut (text : List ℕ) (count : ℕ) (places : List FieldPlace) : Type 0 where
+-- a record's text that keeps the grammar and has four fields, and where they stand
+pub record IsCut (text : List ℕ) (places : List FieldPlace) : Type 0 where
   pub whole : length places ≡ 4
   pub sound : field_values text ≡ none → ⊥
-  pub counted : count ≡ min 5 (length (raw_fields text))
-  pub stand : Places text places count (raw_fields text)
+  pub counted : length (raw_fields text) ≡ 4
+  pub stand : Places text places 4 (raw_fields text)

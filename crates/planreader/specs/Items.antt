@@ -4,6 +4,7 @@ use Rattle.std.specs.Prelude.{◌≡◌, Option, Result, Ok, Err, List, [], ℕ,
 use Rattle.std.specs.Cmp.Lexicographic.{pointwise}
 use Rattle.planning.specs.declared.Fault.{Fault}
 use Rattle.planfile.specs.Reading.{Read, accepted, fault, FourFields, Figures, read_item}
+use Rattle.planreader.specs.declared.items.ItemFields.{ItemFields}
 use Rattle.planreader.specs.declared.items.Items.{Items}
 use Rattle.planreader.specs.declared.items.Rule.{Rule}
 use Rattle.planreader.specs.Plans.{names_in}
@@ -23,6 +24,10 @@ read_by most rule names r x = read_item most rule.low rule.high rule.low2 rule.h
 
 abbrev pub three_fields : (name third fourth : List ℕ) → FourFields
 three_fields name third fourth = record { first = []; second = name; third = third; fourth = fourth }
+
+-- those of a record
+abbrev pub fields_in : ItemFields → FourFields
+fields_in x = three_fields x.name.now x.third.now x.fourth.now
 
 -- the columns with an item stored behind the others
 unfoldable pub with_item : {most : ℕ} → (name : List ℕ) → Figures → Items most → Items most

@@ -1,13 +1,13 @@
 -- What the functions on fields, names and numbers return, in terms of the definitions of RFC 4180 and of the plan file.
 -- Assumes nothing.
-use Rattle.std.specs.Prelude.{◌≡◌, Bool, true, false, cond, None, Some, List, [], ℕ, ◌≤◌, ◌<◌, drop, get_or}
+use Rattle.std.specs.Prelude.{◌≡◌, Bool, true, false, cond, None, Some, Ok, Err, List, [], ℕ, ◌≤◌, ◌<◌, drop, get_or}
 use Rattle.std.proofs.Math.Option.{Option, none, some}
-use Rattle.rfc4180.specs.Fields.{raw_fields, field_value, field_values}
+use Rattle.rfc4180.specs.Fields.{raw_fields, field_value}
 use Rattle.rfc4180.specs.Records.{first_record}
 use Rattle.csv_fields.specs.Spans.{record_span}
 use Rattle.planning.specs.Numbers.{within}
 use Rattle.planfile.specs.Numerals.{value_behind, all_digits, number_of}
-use Rattle.planfile.specs.Reading.{accepted, FourFields, fields_of}
+use Rattle.planfile.specs.Reading.{accepted, fault, FourFields, fields_of}
 use Rattle.planreader.specs.declared.entry.Entry.{Entry}
 use Rattle.planreader.specs.Results.{Ranged, Cutting}
 
@@ -19,12 +19,13 @@ ranged_by low high (some n) = cond (within low high n) (Some n) None
 unfoldable pub ranged_of : (low high : ℕ) → (text : List ℕ) → Ranged
 ranged_of low high text = ranged_by low high (number_of text)
 
--- the value of digits where it is at most the most, else some number above it
-unfoldable pub capped_by : (digits : Bool) → (text : List ℕ) → (most r : ℕ) → Type 0
-capped_by true text most r = (r ≤ most → r ≡ value_behind 0 text) × (most < r → most < value_behind 0 text)
-capped_by false text most r = most < r
+-- the value of digits where it is at most the most, else some number above it; none where a byte is no digit
+unfoldable pub capped_by : (digits : Bool) → (text : List ℕ) → (most : ℕ) → Ranged → Type 0
+capped_by true text most (Some r) = (r ≤ most → r ≡ value_behind 0 text) × (most < r → most < value_behind 0 text)
+capped_by true text most None = ⊥
+capped_by false text most r = r ≡ None
 
-unfoldable pub capped_value : (text : List ℕ) → (most r : ℕ) → Type 0
+unfoldable pub capped_value : (text : List ℕ) → (most : ℕ) → Ranged → Type 0
 capped_value text most r = capped_by (all_digits text) text most r
 
 -- four raw fields of a record's text, and their values
@@ -40,7 +41,7 @@ pub record RecordCut (file : List ℕ) (from : ℕ) (e : Entry) (next : ℕ) : T
   pub text : e.text.now ≡ (first_record (drop from file)).text
   pub behind : next ≡ (record_span file from).next
 
--- or it breaks the grammar
+-- or it breaks the grammar or has not four fields, as the reading has it
 unfoldable pub CutAt : (file : List ℕ) → (from : ℕ) → Cutting → Type 0
-CutAt file from None = field_values (first_record (drop from file)).text ≡ none
-CutAt file from (Some (e, next)) = RecordCut file from e next
+CutAt file from (Err what) = (r : ℕ) → fields_of r (first_record (drop from file)).text ≡ fault what r
+CutAt file from (Ok (e, next)) = RecordCut file from e next

@@ -1,6 +1,7 @@
 -- The plan that a struct by value stands for, read off its columns, and that it is one to be planned and printed.
 -- Assumes nothing.
-use Rattle.std.specs.Prelude.{◌≡◌, List, [], ℕ, ◌*◌, ◌≤◌, length, take, get_or}
+use Rattle.std.specs.Prelude.{◌≡◌, List, [], ℕ, ◌≤◌, length, take, get_or}
+use Rattle.std.specs.List.{flat_map}
 use Rattle.planning.specs.Bounds.{most_quiet}
 use Rattle.planning.specs.Numbers.{quiet_of}
 use Rattle.planning.specs.Plan.{All, Within, QuietInRange, InRange}
@@ -28,14 +29,18 @@ pub record Holding {most : ℕ} (c : Items most) : Type 0 where
   pub seconds : length c.seconds ≡ most
   pub short : All (λ (name : List ℕ). length name ≤ most_name_bytes) (names_in c)
 
--- the first n quiet spans of a column that has three numbers for each
-abbrev pub quiet_in : (n : ℕ) → (column : List ℕ) → List Quiet
-quiet_in n column = quiet_of (take (3 * n) column)
+-- the numbers of the first n quiet spans of a column that has three for each, one behind the other, and those spans
+abbrev pub numbers_in : (n : ℕ) → (column : List (List ℕ)) → List ℕ
+numbers_in n column = flat_map (λ three. three) (take n column)
+
+abbrev pub quiet_in : (n : ℕ) → (column : List (List ℕ)) → List Quiet
+quiet_in n column = quiet_of (numbers_in n column)
 
 -- a column with places for the most quiet spans, of which the first n are filled: each is one of so many engines, and each engine's are in range
-pub record QuietHeld (engines n : ℕ) (column : List ℕ) : Type 0 where
+pub record QuietHeld (engines n : ℕ) (column : List (List ℕ)) : Type 0 where
   pub room : n ≤ most_quiet
-  pub whole : length column ≡ 3 * most_quiet
+  pub whole : length column ≡ most_quiet
+  pub threes : All (λ (three : List ℕ). length three ≡ 3) column
   pub known : All (λ (q : Quiet). Within 1 engines q.engine) (quiet_in n column)
   pub ranges : (i : ℕ) → QuietInRange (spans_of i (quiet_in n column))
 

@@ -1,6 +1,6 @@
 -- What reading a quiet span and adding it to a plan by value comes to, in terms of the reading.
 -- Assumes nothing.
-use Rattle.std.specs.Prelude.{◌≡◌, Result, Ok, Err, List, ℕ, ◌+◌, ◌*◌, length, set}
+use Rattle.std.specs.Prelude.{◌≡◌, Result, Ok, Err, List, [], ◌∷◌, ℕ, ◌+◌, length, set}
 use Rattle.std.proofs.Math.Option.{none}
 use Rattle.planning.specs.declared.Fault.{Fault}
 use Rattle.planning.specs.Numbers.{quiet_fault}
@@ -26,8 +26,8 @@ SpanRead names quiet x (Ok s) =
 SpanRead names quiet x (Err what) = QuietReads names quiet x (λ f r. fault what r)
 
 -- the column with a span stored behind the first n, and the plan by value with it
-unfoldable pub with_span : (n : ℕ) → Span → (column : List ℕ) → List ℕ
-with_span n s column = set (set (set column (3 * n) s.engine) (3 * n + 1) s.from) (3 * n + 2) s.to
+unfoldable pub with_span : (n : ℕ) → Span → (column : List (List ℕ)) → List (List ℕ)
+with_span n s column = set column n (s.engine ∷ s.from ∷ s.to ∷ [])
 
 unfoldable pub plan_with_span : Span → ByValue → ByValue
 plan_with_span s p =

@@ -28,7 +28,7 @@ abbrev pub DeliveriesIn : List NamedDelivery → Items most_deliveries → Type 
 DeliveriesIn deliveries c = Filled (map delivery_item deliveries) c
 
 -- a column that holds n quiet spans, each one of so many engines, and each engine's in range
-pub record SpansIn (engines : ℕ) (quiet : List Quiet) (n : ℕ) (column : List ℕ) : Type 0 where
+pub record SpansIn (engines : ℕ) (quiet : List Quiet) (n : ℕ) (column : List (List ℕ)) : Type 0 where
   pub count : n ≡ length quiet
   pub room : n ≤ most_quiet
   pub filled : column ≡ quiet_column_of quiet

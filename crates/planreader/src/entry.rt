@@ -1,6 +1,8 @@
 // A record of a file cut into its fields.
 ghost use Rattle.planreader.specs.Fields.{IsCut};
 
+use planning::Fault;
+
 // Where a field stands in its record's text, and whether it holds a doubled quote.
 #[derive(Clone, Copy)]
 pub(crate) struct FieldPlace {
@@ -9,14 +11,12 @@ pub(crate) struct FieldPlace {
     pub doubled: bool,
 }
 
-// A record that keeps RFC 4180, cut into its fields: its text in the file, how many fields it has (5 for more than four), and where the first
-// four stand.
+// A record that keeps RFC 4180 and has four fields, cut into them: its text in the file, and where they stand.
 #[derive(Clone, Copy)]
 pub(crate) struct Entry<'a> {
     pub text: &'a [u8],
-    pub count: usize,
     pub places: [FieldPlace; 4],
-    ghost cut: { IsCut text.now count places },
+    ghost cut: { IsCut text.now places },
 }
 
 impl<'a> Entry<'a> {
@@ -28,9 +28,9 @@ impl<'a> Entry<'a> {
     ghost use Rattle.planreader.specs.Parts.{CutAt};
     ghost use Rattle.planreader.specs.Fields.{NameFor};
 
-    // Cuts the record that begins at a place of a file; behind it stands where the next one begins. There is none at the first field that breaks
-    // the grammar: what follows cannot mend it.
-    pub(crate) fn cut(file: &'a [u8], from: usize) -> Option<(Entry<'a>, usize)>
+    // Cuts the record that begins at a place of a file; behind it stands where the next one begins. It is refused at the first field that breaks
+    // the grammar, as what follows cannot mend it, and, where it has not four fields, at its end.
+    pub(crate) fn cut(file: &'a [u8], from: usize) -> Result<(Entry<'a>, usize), Fault>
         requires { from ≤ length file.now }
         ensures { CutAt file.now from result }
     {
@@ -43,7 +43,7 @@ impl<'a> Entry<'a> {
         let mut count = 0;
         let mut at = from;
         loop {
-            let read = csv_fields::field_read(file, at)?;
+            let read = csv_fields::field_read(file, at).ok_or(Fault::Grammar)?;
             if count < 4 {
                 places[count] = FieldPlace {
                     start: at - from,
@@ -51,46 +51,45 @@ impl<'a> Entry<'a> {
                     doubled: read.doubled,
                 };
             }
-            if count < 5 {
-                count += 1;
-            }
+            count += 1;
             if read.more {
                 at = read.next;
-            } else {
+            } else if count == 4 {
                 let entry = Entry {
                     text: &file[from..read.end],
-                    count,
                     places,
                 };
-                return Some((entry, read.next));
+                return Ok((entry, read.next));
+            } else {
+                return Err(Fault::Fields);
             }
         }
     }
 
-    // The field at place j of a record that has four, with its quotes.
+    // The field at place j, with its quotes.
     fn raw(&self, j: usize) -> &'a [u8]
-        requires { (self.now.count ≡ 4) × (j < 4) }
+        requires { j < 4 }
         ensures { result.now ≡ get_or (raw_fields self.now.text.now) j [] }
     {
         let place = self.places[j];
         &self.text[place.start..place.end]
     }
 
-    // The field at place j of a record that has four: that part of the file. Where it holds no doubled quote this is its value; where it does, it
-    // holds a quote, as no word and no number does.
+    // The field at place j: that part of the file. Where it holds no doubled quote this is its value; where it does, it holds a quote, as no word
+    // and no number does.
     pub(crate) fn part(&self, j: usize) -> &'a [u8]
-        requires { (self.now.count ≡ 4) × (j < 4) }
+        requires { j < 4 }
         ensures { result.now ≡ inside_of (get_or (raw_fields self.now.text.now) j []) }
     {
         csv_fields::part_of(self.raw(j))
     }
 
-    // The name that stands second in a record that has four: that part of the file, or, where a quote is doubled in it, its value undone into the
-    // buffer. What does not fit there is longer than any name, and so is the part then.
+    // The name, which stands second: that part of the file, or, where a quote is doubled in it, its value undone into the buffer. What does not fit
+    // there is longer than any name, and so is the part then.
     pub(crate) fn name<'b>(&self, buffer: &'b mut [u8]) -> &'b [u8]
     where
         'a: 'b,
-        requires { (self.now.count ≡ 4) × (length buffer.old ≡ most_name_bytes) }
+        requires { length buffer.old ≡ most_name_bytes }
         ensures { (value : List ℕ) → field_value (get_or (raw_fields self.now.text.now) 1 []) ≡ some value → NameFor value result.now }
     {
         let field = self.raw(1);

@@ -1,7 +1,7 @@
 // The engines or the deliveries of a file: columns of names and of two numbers each, filled from the front.
 ghost use Rattle.std.specs.Prelude.{◌≡◌, [], ◌≤◌};
 ghost use Rattle.planreader.specs.Columns.{columns_of};
-ghost use Rattle.planreader.specs.Items.{three_fields, place_among, Ruled, Adds};
+ghost use Rattle.planreader.specs.Items.{fields_in, place_among, Ruled, Adds};
 ghost use Rattle.planreader.specs.Plans.{names_in};
 
 use crate::names::Name;
@@ -17,6 +17,14 @@ pub struct Items<const MOST: usize> {
     pub names: [Name; MOST],
     pub firsts: [u64; MOST],
     pub seconds: [u64; MOST],
+}
+
+// The fields of a record behind its kind: the text that its name is taken from, and the parts of its third and fourth field.
+#[derive(Clone, Copy)]
+pub(crate) struct ItemFields<'a> {
+    pub name: &'a [u8],
+    pub third: &'a [u8],
+    pub fourth: &'a [u8],
 }
 
 // What a kind of item has to keep: the ranges of its two numbers, by which alone the kinds differ.
@@ -66,26 +74,20 @@ impl<const MOST: usize> Items<MOST> {
     }
 
     // Adds the item of a record: 7 for one too many, then its fields from the left.
-    pub(crate) fn add(
-        &mut self,
-        name: &[u8],
-        third: &[u8],
-        fourth: &[u8],
-        rule: Rule,
-    ) -> Result<(), Fault>
+    pub(crate) fn add(&mut self, fields: ItemFields<'_>, rule: Rule) -> Result<(), Fault>
         requires { Ruled rule × (self.old.count ≤ MOST) }
-        ensures { Adds rule (three_fields name.now third.now fourth.now) self.old self.new result }
+        ensures { Adds rule (fields_in fields.entry) self.old self.new result }
     {
         if MOST <= self.count {
             return Err(Fault::Count);
         }
-        if !names::is_sound(name) || self.find(name).is_some() {
+        if !names::is_sound(fields.name) || self.find(fields.name).is_some() {
             return Err(Fault::Name);
         }
-        let first = numeral::in_range(third, rule.low, rule.high).ok_or(Fault::Value)?;
-        let second = numeral::in_range(fourth, rule.low2, rule.high2).ok_or(Fault::Value)?;
+        let first = numeral::in_range(fields.third, rule.low, rule.high).ok_or(Fault::Value)?;
+        let second = numeral::in_range(fields.fourth, rule.low2, rule.high2).ok_or(Fault::Value)?;
         let k = self.count;
-        self.names[k] = Name::of(name);
+        self.names[k] = Name::of(fields.name);
         self.firsts[k] = first;
         self.seconds[k] = second;
         self.count += 1;

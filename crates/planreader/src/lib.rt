@@ -18,7 +18,7 @@ pub use names::Name;
 use planning::{MOST_DELIVERIES, MOST_ENGINES, MOST_QUIET, Mode, Refusal};
 
 // The plan of a file by value, as specs/Columns' `by_value` has it. A quiet span has three numbers: its engine, counted from 1, FROM and TO; the spans
-// fill the list from the front, and 0 stands behind them: the allocation on numbers takes that list as it is.
+// fill the list from the front, and 0 stands behind them: the allocation on numbers takes those of the spans one behind the other, as they stand.
 #[derive(Clone, Copy)]
 pub struct FilePlan {
     pub mode: Mode,
@@ -26,7 +26,7 @@ pub struct FilePlan {
     pub allowance: u64,
     pub engines: Items<MOST_ENGINES>,
     pub spans: usize,
-    pub quiet: [u64; 3 * MOST_QUIET],
+    pub quiet: [[u64; 3]; MOST_QUIET],
     pub deliveries: Items<MOST_DELIVERIES>,
 }
 
@@ -42,7 +42,7 @@ pub fn read(file: &[u8]) -> Result<FilePlan, Refusal>
         allowance: opening.allowance,
         engines: Items::none(),
         spans: 0,
-        quiet: [0; 3 * MOST_QUIET],
+        quiet: [[0; 3]; MOST_QUIET],
         deliveries: Items::none(),
     };
     records::read(file, next, &mut plan)?;

@@ -29,13 +29,10 @@ fn mode_of(text: &[u8]) -> Option<Mode>
     }
 }
 
-// Reads record 1, which keeps RFC 4180: 3 and 4, then its fields from the left.
+// Reads record 1, which has four fields: 4, then its fields from the left.
 fn read(entry: &Entry<'_>) -> Result<Opening, Fault>
     ensures { opening_read result ≡ read_opening entry.now.text.now }
 {
-    if entry.count != 4 {
-        return Err(Fault::Fields);
-    }
     if entry.part(0) != b"plan".as_slice() {
         return Err(Fault::Kind);
     }
@@ -59,14 +56,7 @@ pub(crate) fn begin(file: &[u8]) -> Result<(Opening, usize), Refusal>
             place: 0,
         });
     }
-    let Some((entry, next)) = Entry::cut(file, 0) else {
-        return Err(Refusal {
-            fault: Fault::Grammar,
-            place: 1,
-        });
-    };
-    match read(&entry) {
-        Ok(opening) => Ok((opening, next)),
-        Err(fault) => Err(Refusal { fault, place: 1 }),
-    }
+    let (entry, next) = Entry::cut(file, 0).map_err(|fault| Refusal { fault, place: 1 })?;
+    let opening = read(&entry).map_err(|fault| Refusal { fault, place: 1 })?;
+    Ok((opening, next))
 }

@@ -2,10 +2,11 @@
 ghost use Rattle.std.specs.Prelude.{◌≤◌};
 ghost use Rattle.planning.specs.Bounds.{most_engines};
 ghost use Rattle.planning.specs.Numbers.{quiet_of};
-ghost use Rattle.planreader.specs.Items.{three_fields};
+ghost use Rattle.planreader.specs.Items.{fields_in};
 ghost use Rattle.planreader.specs.Plans.{names_in, QuietHeld};
 ghost use Rattle.planreader.specs.Quiet.{SpanRead, AddsQuiet};
 
+use crate::items::ItemFields;
 use crate::{FilePlan, Items, numeral};
 use planning::{Fault, MOST_ENGINES, MOST_MINUTES};
 
@@ -18,19 +19,13 @@ pub(crate) struct Span {
 }
 
 // A quiet span behind those of a list of three numbers each: 10 where its engine is none of these, then its fields from the left, then 11.
-fn read(
-    name: &[u8],
-    third: &[u8],
-    fourth: &[u8],
-    engines: &Items<MOST_ENGINES>,
-    quiet: &[u64],
-) -> Result<Span, Fault>
+fn read(fields: ItemFields<'_>, engines: &Items<MOST_ENGINES>, quiet: &[u64]) -> Result<Span, Fault>
     requires { engines.now.count ≤ most_engines }
-    ensures { SpanRead (names_in engines.now) (quiet_of quiet.now) (three_fields name.now third.now fourth.now) result }
+    ensures { SpanRead (names_in engines.now) (quiet_of quiet.now) (fields_in fields.entry) result }
 {
-    let place = engines.find(name).ok_or(Fault::UnknownEngine)?;
-    let from = numeral::in_range(third, 0, MOST_MINUTES).ok_or(Fault::Value)?;
-    let to = numeral::in_range(fourth, 0, MOST_MINUTES).ok_or(Fault::Value)?;
+    let place = engines.find(fields.name).ok_or(Fault::UnknownEngine)?;
+    let from = numeral::in_range(fields.third, 0, MOST_MINUTES).ok_or(Fault::Value)?;
+    let to = numeral::in_range(fields.fourth, 0, MOST_MINUTES).ok_or(Fault::Value)?;
     let engine = (place + 1) as u64;
     if !planning::span_fits(quiet, engine, from, to) {
         return Err(Fault::QuietSpan);
@@ -40,20 +35,13 @@ fn read(
 
 impl FilePlan {
     // Adds the quiet span of a record. Not by `Items::add`: a span has no name of its own, and its fields are looked at in another order.
-    pub(crate) fn add_quiet(
-        &mut self,
-        name: &[u8],
-        third: &[u8],
-        fourth: &[u8],
-    ) -> Result<(), Fault>
+    pub(crate) fn add_quiet(&mut self, fields: ItemFields<'_>) -> Result<(), Fault>
         requires { (self.old.engines.count ≤ most_engines) × QuietHeld self.old.engines.count self.old.spans self.old.quiet }
-        ensures { AddsQuiet (three_fields name.now third.now fourth.now) self.old self.new result }
+        ensures { AddsQuiet (fields_in fields.entry) self.old self.new result }
     {
-        let at = 3 * self.spans;
-        let span = read(name, third, fourth, &self.engines, &self.quiet[..at])?;
-        self.quiet[at] = span.engine;
-        self.quiet[at + 1] = span.from;
-        self.quiet[at + 2] = span.to;
+        let k = self.spans;
+        let span = read(fields, &self.engines, self.quiet[..k].as_flattened())?;
+        self.quiet[k] = [span.engine, span.from, span.to];
         self.spans += 1;
         Ok(())
     }

@@ -5,29 +5,28 @@ ghost use Rattle.planreader.specs.Records.{begun_by, Held, AddsRecord, RecordsBy
 
 use crate::FilePlan;
 use crate::entry::Entry;
-use crate::items::{DELIVERY, ENGINE};
+use crate::items::{DELIVERY, ENGINE, ItemFields};
 use planfile::MOST_NAME_BYTES;
 use planning::{Fault, Refusal};
 
-// Adds the engine, quiet span or delivery of a record that keeps RFC 4180: 3 and 4, then 7, its fields and 11.
+// Adds the engine, quiet span or delivery of a record that has four fields: 4, then 7, its fields and 11.
 fn add_record(entry: &Entry<'_>, plan: &mut FilePlan) -> Result<(), Fault>
     requires { Held plan.old }
     ensures { AddsRecord entry.now.text.now plan.old plan.new result }
 {
-    if entry.count != 4 {
-        return Err(Fault::Fields);
-    }
     let mut buffer = [0u8; MOST_NAME_BYTES];
     let kind = entry.part(0);
-    let name = entry.name(&mut buffer);
-    let third = entry.part(2);
-    let fourth = entry.part(3);
+    let fields = ItemFields {
+        name: entry.name(&mut buffer),
+        third: entry.part(2),
+        fourth: entry.part(3),
+    };
     if kind == b"engine".as_slice() {
-        plan.engines.add(name, third, fourth, ENGINE)
+        plan.engines.add(fields, ENGINE)
     } else if kind == b"quiet".as_slice() {
-        plan.add_quiet(name, third, fourth)
+        plan.add_quiet(fields)
     } else if kind == b"delivery".as_slice() {
-        plan.deliveries.add(name, third, fourth, DELIVERY)
+        plan.deliveries.add(fields, DELIVERY)
     } else {
         Err(Fault::Kind)
     }
@@ -42,15 +41,8 @@ pub(crate) fn read(file: &[u8], start: usize, plan: &mut FilePlan) -> Result<(),
     // counted beside the loop, which goes on where the record before ended
     let mut place: u64 = 2;
     while from < file.len() {
-        let Some((entry, next)) = Entry::cut(file, from) else {
-            return Err(Refusal {
-                fault: Fault::Grammar,
-                place,
-            });
-        };
-        if let Err(fault) = add_record(&entry, plan) {
-            return Err(Refusal { fault, place });
-        }
+        let (entry, next) = Entry::cut(file, from).map_err(|fault| Refusal { fault, place })?;
+        add_record(&entry, plan).map_err(|fault| Refusal { fault, place })?;
         from = next;
         place += 1;
     }

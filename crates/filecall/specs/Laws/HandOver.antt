@@ -33,7 +33,8 @@ use Rattle.planfile.specs.Reading.{◌>>=◌, require}
 use Rattle.planreader.specs.declared.FilePlan.{FilePlan as ByValue}
 use Rattle.filecall.specs.HandOver.{Answers, with_space, lent_lists, HandedOver}
 use Rattle.planreader.specs.declared.items.Items.{Items}
-use Rattle.planreader.specs.Plans.{names_in, items_in, Holding, quiet_in, plan_by, UsablePlan}
+use Rattle.planreader.specs.Laws.Quiet.{length-numbers}
+use Rattle.planreader.specs.Plans.{names_in, items_in, Holding, numbers_in, quiet_in, plan_by, UsablePlan}
 use Rattle.filecall.specs.Laws.Printing.{print-by-names}
 use Rattle.filecall.specs.Printing.{print_lines}
 
@@ -68,7 +69,13 @@ module _ {p : ByValue} (u : UsablePlan p) (table spare : List ℕ) where
   abbrev pub call_by : Call
   call_by =
       call_on p.mode p.minutes p.allowance (take p.engines.count p.engines.firsts) (take p.engines.count p.engines.seconds)
-      (take p.deliveries.count p.deliveries.firsts) (take p.deliveries.count p.deliveries.seconds) (take (3 * p.spans) p.quiet) table spare
+      (take p.deliveries.count p.deliveries.firsts) (take p.deliveries.count p.deliveries.seconds) (numbers_in p.spans p.quiet) table spare
+
+  -- by the numbers of its quiet spans
+  pub call-numbers : (quiet : List ℕ) → quiet ≡ numbers_in p.spans p.quiet → call_on p.mode p.minutes p.allowance
+      (take p.engines.count p.engines.firsts) (take p.engines.count p.engines.seconds)
+      (take p.deliveries.count p.deliveries.firsts) (take p.deliveries.count p.deliveries.seconds) quiet table spare ≡ call_by
+  call-numbers quiet e = rw e refl
 
   watts-back : map (λ (i : NamedEngine). i.watts) (plan_by p).engines ≡ take p.engines.count p.engines.firsts
   watts-back = column_back engine_of _ p.engines p.engines.firsts (λ k l. refl) (omega (arith, u.engines.room, u.engines.firsts))
@@ -94,8 +101,8 @@ module _ {p : ByValue} (u : UsablePlan p) (table spare : List ℕ) where
     length-take-le p.deliveries.count p.deliveries.seconds (omega (arith, u.deliveries.room, u.deliveries.seconds)),
   )
 
-  quiet-length : length (take (3 * p.spans) p.quiet) ≡ 3 * p.spans
-  quiet-length = length-take-le (3 * p.spans) p.quiet (omega (arith, u.quiet.room, u.quiet.whole))
+  quiet-length : length (numbers_in p.spans p.quiet) ≡ 3 * p.spans
+  quiet-length = length-numbers p.spans p.quiet u.quiet.threes (omega (arith, u.quiet.room, u.quiet.whole))
 
   module _ (cells : length table ≡ p.deliveries.count * p.engines.count) (count : length spare ≡ p.engines.count) where
     call-accepted : Accepted call_by

@@ -1,7 +1,6 @@
 -- `read` meets its contract: the beginning, then the other records into an empty plan.
 use Rattle.std.proofs.Common.{sym, ap, ◌∙◌}
 use Rattle.std.proofs.lemmas.Result.{err_from_is_err_and}
-use Rattle.planning.specs.Numbers.{triples_of}
 use Rattle.planning.specs.Tables.{padded}
 use Rattle.planreader.specs.Columns.{by_value, reading_of}
 use Rattle.planreader.specs.Laws.Pending.{records-refused-by, records-read-by}
@@ -15,7 +14,7 @@ returns-in_err-opening c =
     rw (is, same) (ap reading_of (sym c.in_err-opening.ensures))
 
 pub read-requires : goal.read-requires
-unfolding BeginsBy by_value padded triples_of
+unfolding BeginsBy by_value padded
 read-requires c = (c.in_ok-opening.ensures.0, rw (c.none.ensures, c.none-2.ensures))
 
 pub returns-in_err-read : goal.returns-in_err-read

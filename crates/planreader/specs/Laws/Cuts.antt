@@ -1,6 +1,6 @@
 -- A record of a file cut into its fields, one field after the other: what is known when some of them are passed. Assumes nothing.
-use Rattle.std.specs.Prelude.{◌≡◌, refl, ◌⊎◌, ℕ, ◌+◌, ◌-◌, ◌≤◌, ◌<◌, min, Bool, true, false, cond, None, Some, List, [], ◌∷◌, ◌++◌, length, take, drop, get_or, set, replicate}
-use Rattle.std.proofs.Common.{sym, ap, ◌∙◌, inl, inr, arith, append_assoc, length-append, length-set, get_or-set_same, get_or-set_other, take_at, drop_at}
+use Rattle.std.specs.Prelude.{◌≡◌, refl, ◌⊎◌, ℕ, ◌+◌, ◌-◌, ◌≤◌, ◌<◌, Bool, true, false, cond, None, Some, Err, List, [], ◌∷◌, ◌++◌, length, take, drop, get_or, set, replicate}
+use Rattle.std.proofs.Common.{sym, ap, ◌∙◌, subst, inl, inr, arith, append_assoc, length-append, length-set, get_or-set_same, get_or-set_other, take_at, drop_at}
 use Rattle.std.proofs.Math.Option.{Option, none, some, none-ne-some, some_inj}
 use Rattle.std.proofs.Math.ListN.{get_or-append}
 use Rattle.std.proofs.Math.Seq.{append_snoc}
@@ -13,8 +13,10 @@ use Rattle.csv_fields.specs.Spans.{record_span, field_read, holds_quote}
 use Rattle.csv_fields.specs.Laws.RecordSpans.{record_stands}
 use Rattle.csv_fields.specs.Laws.FieldReads.{ReadAt, broken_record, field_told}
 use Rattle.planning.proofs.Laws.Finite.Decisions.{le-or-lt}
+use Rattle.planning.specs.declared.Fault.TheVariants.{Grammar, Fields}
 use Rattle.planreader.specs.declared.entry.FieldPlace.{FieldPlace}
 use Rattle.planreader.specs.Fields.{nowhere, Place, Places, IsCut}
+use Rattle.planreader.specs.Laws.FourFields.{text-broken, cut-other}
 use Rattle.planreader.specs.Parts.{CutAt}
 
 -- ---- the values of some fields and of one more
@@ -84,12 +86,13 @@ place-behind text done raw tail value d e reads quotes =
 pub record Passed (file : List ℕ) (from : ℕ) (count : ℕ) (places : List FieldPlace) (at : ℕ) : Type 0 where
   pub fields : List (List ℕ)
   pub whole : raw_fields (first_record (drop from file)).text ≡ fields ++ raw_fields (first_record (drop at file)).text
-  pub counted : count ≡ min 5 (length fields)
+  pub counted : count ≡ length fields
   pub valued : Valued fields
   pub room : length places ≡ 4
   pub stand : Places (first_record (drop from file)).text places count fields
   pub begins : at ≤ length file
   pub done : List ℕ
+  pub few : count ≤ length done
   pub place : at ≡ from + length done
   pub text : (first_record (drop from file)).text ≡ done ++ (first_record (drop at file)).text
   pub span : record_span file from ≡ record_span file at
@@ -106,6 +109,7 @@ none_passed file from inside =
       stand = λ j l m. absurd (omega arith);
       begins = inside;
       done = [];
+      few = omega arith;
       place = omega arith;
       text = refl;
       span = refl;
@@ -113,9 +117,11 @@ none_passed file from inside =
 
 module _ {file : List ℕ} {from count : ℕ} {places : List FieldPlace} {at : ℕ} (p : Passed file from count places at) where
   -- a field that breaks the grammar
-  pub cut-broken : field_read file at ≡ None → CutAt file from None
+  pub cut-broken : field_read file at ≡ None → CutAt file from (Err Grammar)
   unfolding CutAt field_values
-  cut-broken broken = rw p.whole (left-broken p.fields (raw_fields (first_record (drop at file)).text) (broken_record file at broken))
+  cut-broken broken =
+      text-broken (first_record (drop from file)).text
+      (rw p.whole (left-broken p.fields (raw_fields (first_record (drop at file)).text) (broken_record file at broken)))
 
   module _ (read : FieldRead) (is : field_read file at ≡ Some read) where
     pub told : ReadAt file at read
@@ -171,7 +177,7 @@ module _ {file : List ℕ} {from count : ℕ} {places : List FieldPlace} {at : �
         (told.fields ∙ ap (λ (t : Bool). told.raw ∷ cond t (raw_fields (first_record (drop read.next file)).text) []) is)
 
     -- with the next field
-    module _ (places' : List FieldPlace) (count' : ℕ) (stored : Stored places' ⊎ Full places') (counts : count' ≡ min 5 (count + 1)) where
+    module _ (places' : List FieldPlace) (stored : Stored places' ⊎ Full places') where
       next-room : length places' ≡ 4
       next-room = go stored
         where
@@ -179,21 +185,18 @@ module _ {file : List ℕ} {from count : ℕ} {places : List FieldPlace} {at : �
           go (inl s) = rw s.stores (length-set places count field_place ∙ p.room)
           go (inr s) = rw s.keeps p.room
 
-      next-counted : count' ≡ min 5 (length (p.fields ++ told.raw ∷ []))
+      next-counted : count + 1 ≡ length (p.fields ++ told.raw ∷ [])
       next-counted = omega (arith, p.counted, length-append p.fields (told.raw ∷ []))
 
-      next-stand : Places (first_record (drop from file)).text places' count' (p.fields ++ told.raw ∷ [])
+      next-stand : Places (first_record (drop from file)).text places' (count + 1) (p.fields ++ told.raw ∷ [])
       next-stand = go stored
         where
-          go : Stored places' ⊎ Full places' → Places (first_record (drop from file)).text places' count' (p.fields ++ told.raw ∷ [])
-          go (inl s) =
-              let total : count' ≡ count + 1 = omega (arith, s.room) in
-              let known : count ≡ length p.fields = omega (arith, p.counted, s.room) in
-              rw (s.stores, total) (place_stored _ places count p.fields told.raw p.stand field_place s.room p.room known next_place)
-          go (inr s) = rw s.keeps (places_same _ places count p.fields told.raw p.stand count' s.full (omega (arith, p.counted)))
+          go : Stored places' ⊎ Full places' → Places (first_record (drop from file)).text places' (count + 1) (p.fields ++ told.raw ∷ [])
+          go (inl s) = rw s.stores (place_stored _ places count p.fields told.raw p.stand field_place s.room p.room p.counted next_place)
+          go (inr s) = rw s.keeps (places_same _ places count p.fields told.raw p.stand (count + 1) s.full (omega (arith, p.counted)))
 
       -- it is passed, where there are more
-      pub next-passed : read.more ≡ true → Passed file from count' places' read.next
+      pub next-passed : read.more ≡ true → Passed file from (count + 1) places' read.next
       next-passed goes =
           record {
             fields = p.fields ++ told.raw ∷ [];
@@ -204,6 +207,7 @@ module _ {file : List ℕ} {from count : ℕ} {places : List FieldPlace} {at : �
             stand = next-stand;
             begins = told.inside goes;
             done = p.done ++ (told.raw ++ comma ∷ []);
+            few = omega (arith, p.few, length-append p.done (told.raw ++ comma ∷ []), length-append told.raw (comma ∷ []));
             place = omega (
               arith,
               p.place,
@@ -224,13 +228,26 @@ module _ {file : List ℕ} {from count : ℕ} {places : List FieldPlace} {at : �
         all-fields : raw_fields (first_record (drop from file)).text ≡ p.fields ++ told.raw ∷ []
         all-fields = fields-told over
 
-        pub last-cut : IsCut (first_record (drop from file)).text count' places'
+        last-sound : field_values (first_record (drop from file)).text ≡ none → ⊥
         unfolding field_values
-        last-cut =
+        last-sound broken =
             let (values, valued) = one-valued p.fields told.raw told.value told.valued p.valued in
+            none-ne-some values (sym broken ∙ rw all-fields valued)
+
+        last-counted : length (raw_fields (first_record (drop from file)).text) ≡ count + 1
+        last-counted = rw all-fields (sym next-counted)
+
+        -- four of them
+        pub last-cut : count + 1 ≡ 4 → IsCut (first_record (drop from file)).text places'
+        last-cut four =
             record {
               whole = next-room;
-              sound = λ broken. none-ne-some values (sym broken ∙ rw all-fields valued);
-              counted = rw all-fields next-counted;
-              stand = rw all-fields next-stand;
+              sound = last-sound;
+              counted = last-counted ∙ four;
+              stand = rw all-fields (subst (λ n. Places (first_record (drop from file)).text places' n (p.fields ++ told.raw ∷ [])) four next-stand);
             }
+
+        -- or not
+        pub last-other : (count + 1 ≡ 4 → ⊥) → CutAt file from (Err Fields)
+        unfolding CutAt
+        last-other other = cut-other _ last-sound (λ four. other (sym last-counted ∙ four))

@@ -56,22 +56,22 @@ pub text-broken : (text : List ℕ) → field_values text ≡ none → (r : ℕ)
 unfolding fields_of unless_broken
 text-broken text e r = rw e
 
-module _ {text : List ℕ} {count : ℕ} {places : List FieldPlace} (c : IsCut text count places) where
+module _ (text : List ℕ) (sound : field_values text ≡ none → ⊥) where
   -- its values
   read_values : (values : List (List ℕ)) × (field_values text ≡ some values)
   read_values = go (field_values text) refl
     where
       go : (o : Option (List (List ℕ))) → field_values text ≡ o → (values : List (List ℕ)) × (field_values text ≡ some values)
-      go none e = absurd (c.sound e)
+      go none e = absurd (sound e)
       go (some values) e = (values, e)
 
   -- 3
-  pub cut-other : (count ≡ 4 → ⊥) → (r : ℕ) → fields_of r text ≡ fault what.Fields r
+  pub cut-other : (length (raw_fields text) ≡ 4 → ⊥) → (r : ℕ) → fields_of r text ≡ fault what.Fields r
   unfolding fields_of unless_broken field_values
   cut-other other r =
       let (values, valued) = read_values in
       ap (unless_broken r) valued
-      ∙ go values (λ four. other (omega (arith, c.counted, values_length (raw_fields text) values valued)))
+      ∙ go values (λ four. other (omega (arith, values_length (raw_fields text) values valued)))
     where
       go : (values : List (List ℕ)) → (length values ≡ 4 → ⊥) → four_of r values ≡ fault what.Fields r
       go [] n = unfold four_of in refl
@@ -81,10 +81,10 @@ module _ {text : List ℕ} {count : ℕ} {places : List FieldPlace} (c : IsCut t
       go (a ∷ b ∷ c ∷ d ∷ []) n = absurd (n refl)
       go (a ∷ b ∷ c ∷ d ∷ more ∷ others) n = unfold four_of in refl
 
-  -- the four fields
-  pub cut_four : count ≡ 4 → (x : FourFields) × Valued text x
-  unfolding field_values Values
-  cut_four four =
-      let (values, valued) = read_values in
-      let (x, list, (p, (q, (s, t)))) = four_values (raw_fields text) values (omega (arith, c.counted)) valued in
-      (x, record { read = λ r. (fields-iff r text x).1 (valued ∙ ap some list); first = p; second = q; third = s; fourth = t })
+-- the four fields
+pub cut_four : {text : List ℕ} {places : List FieldPlace} → IsCut text places → (x : FourFields) × Valued text x
+unfolding field_values Values
+cut_four {text} c =
+    let (values, valued) = read_values text c.sound in
+    let (x, list, (p, (q, (s, t)))) = four_values (raw_fields text) values c.counted valued in
+    (x, record { read = λ r. (fields-iff r text x).1 (valued ∙ ap some list); first = p; second = q; third = s; fourth = t })

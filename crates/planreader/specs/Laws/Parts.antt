@@ -1,6 +1,7 @@
 -- What the inner functions of the reading come to: how digits are read one by one up to the most, and what a number in its range is then read as.
 -- Assumes nothing.
 use Rattle.std.specs.Prelude.{None, Some, ◌≡◌, refl, ◌⊎◌, ℕ, ◌+◌, ◌*◌, ◌-◌, ◌≤◌, ◌<◌, Bool, true, false, cond, ◌&&◌, List, [], ◌∷◌, length, get_or, leb}
+use Rattle.std.specs.Bool.{then_some}
 use Rattle.std.proofs.Common.{sym, ◌∙◌, inl, inr, zero-add, arith, le-leb}
 use Rattle.std.proofs.Math.Path.{ap}
 use Rattle.std.proofs.Math.Bool.{and-true, and-false}
@@ -66,15 +67,15 @@ pub capped-over : {text rest : List ℕ} {most n b : ℕ} → Capped text (b ∷
 capped-over c low high l = record { digits = digit_read c low high; value = λ m. absurd (omega arith); above = c.above }
 
 -- the last digit is read, or a byte that is no digit
-pub capped-end : {text : List ℕ} {most n : ℕ} → Capped text [] most n → capped_value text most n
+pub capped-end : {text : List ℕ} {most n : ℕ} → Capped text [] most n → capped_value text most (Some n)
 unfolding capped_value capped_by all_digits value_behind
 capped-end c = rw c.digits (λ l. c.value l, c.above)
 
 pub capped-other : {text rest : List ℕ} {most n b : ℕ} → Capped text (b ∷ rest) most n → (b < digit_zero) ⊎ (digit_nine < b)
-    → capped_value text most (most + 1)
+    → capped_value text most None
 unfolding capped_value capped_by all_digits
-capped-other {b = b} c (inl l) = rw (c.digits, within-below digit_zero digit_nine b l) (omega arith)
-capped-other {b = b} c (inr l) = rw (c.digits, within-above digit_zero digit_nine b l) (omega arith)
+capped-other {b = b} c (inl l) = rw (c.digits, within-below digit_zero digit_nine b l) refl
+capped-other {b = b} c (inr l) = rw (c.digits, within-above digit_zero digit_nine b l) refl
 
 -- ---- numbers in their range
 
@@ -107,10 +108,10 @@ ranged_leading_zero low high (d ∷ []) e l = absurd (omega arith)
 ranged_leading_zero low high (d ∷ c ∷ ds) e l = rw (within-below (digit_zero + 1) digit_nine d (omega arith))
 
 -- any other text by its value, where that is at most the most
-value-ranged : (low high r : ℕ) (text : List ℕ) (digits : Bool) → capped_by digits text high r
+value-ranged : (low high r : ℕ) (text : List ℕ) (digits : Bool) → capped_by digits text high (Some r)
     → ranged_by low high (cond digits (some (value_behind 0 text)) none) ≡ cond (within low high r) (Some r) None
 unfolding ranged_by capped_by
-value-ranged low high r text false h = rw (within-above low high r h)
+value-ranged low high r text false h = absurd (cc)
 value-ranged low high r text true h = go (le-or-lt r high)
   where
     go : (r ≤ high) ⊎ (high < r)
@@ -118,18 +119,26 @@ value-ranged low high r text true h = go (le-or-lt r high)
     go (inl l) = rw (h.0 l)
     go (inr l) = rw (within-above low high r l, within-above low high (value_behind 0 text) (h.1 l))
 
-module _ (low high r : ℕ) (text : List ℕ) (some_byte : 1 ≤ length text) (lead : get_or text 0 0 ≡ digit_zero → length text ≤ 1)
-    (capped : capped_value text high r) where
-  ranged-number : ranged_of low high text ≡ cond (within low high r) (Some r) None
+module _ (low high : ℕ) (text : List ℕ) (some_byte : 1 ≤ length text) (lead : get_or text 0 0 ≡ digit_zero → length text ≤ 1) where
+  pub ranged-number : (r : ℕ) → capped_value text high (Some r) → ranged_of low high text ≡ cond (within low high r) (Some r) None
   unfolding ranged_of capped_value
-  ranged-number = ap (ranged_by low high) (number_digits text some_byte lead) ∙ value-ranged low high r text (all_digits text) capped
+  ranged-number r capped = ap (ranged_by low high) (number_digits text some_byte lead) ∙ value-ranged low high r text (all_digits text) capped
 
-  pub ranged-inside : low ≤ r → r ≤ high → ranged_of low high text ≡ Some r
-  ranged-inside l m = ranged-number ∙ rw (within_both low high r l m)
+  pub ranged-other : capped_value text high None → ranged_of low high text ≡ None
+  unfolding ranged_of ranged_by capped_value capped_by
+  ranged-other capped = ap (ranged_by low high) (number_digits text some_byte lead) ∙ no-digits (all_digits text) capped
+    where
+      no-digits : (digits : Bool) → capped_by digits text high None → ranged_by low high (cond digits (some (value_behind 0 text)) none) ≡ None
+      no-digits true h = absurd h
+      no-digits false h = refl
 
-  pub ranged-outside : (r < low) ⊎ (high < r) → ranged_of low high text ≡ None
-  ranged-outside (inl l) = ranged-number ∙ rw (within-below low high r l)
-  ranged-outside (inr l) = ranged-number ∙ rw (within-above low high r l)
+  pub ranged-tested : (r : ℕ) → capped_value text high (Some r) → (t : Bool) → t ≡ (leb low r && leb r high) → then_some t r ≡ ranged_of low high text
+  unfolding within
+  ranged-tested r capped t test = sym (ranged-number r capped ∙ go t test)
+    where
+      go : (t : Bool) → t ≡ (leb low r && leb r high) → cond (leb low r && leb r high) (Some r) None ≡ then_some t r
+      go true e = rw (← e)
+      go false e = rw (← e)
 
 -- ---- the reading
 

@@ -1,25 +1,22 @@
 -- What is left to be read of a file behind the records that are read, at each turn of the loop over them. Assumes nothing.
 use Rattle.std.specs.Prelude.{◌≡◌, Result, Ok, Err, List, [], ◌∷◌, ℕ, zero, suc, ◌+◌, ◌≤◌, ◌<◌, length, drop}
 use Rattle.std.proofs.Math.Path.{refl}
-use Rattle.std.proofs.Math.Option.{none}
 use Rattle.std.proofs.Common.{sym, ap, ◌∙◌, subst, arith, length-drop, drop_of_length-le}
 use Rattle.std.proofs.Math.ListN.{length-map}
 use borrow.Author.Tests.{le-leb, lt-leb}
-use Rattle.rfc4180.specs.Fields.{field_values}
 use Rattle.rfc4180.specs.Records.{first_record, further, further_records}
 use Rattle.csv_fields.specs.Laws.RecordSpans.{Stands, record_stands, records-from}
 use Rattle.csv_fields.specs.Spans.{record_span}
 use Rattle.planning.specs.declared.Fault.{Fault}
-use Rattle.planning.specs.declared.Fault.TheVariants.{Grammar, NoEngine}
+use Rattle.planning.specs.declared.Fault.TheVariants.{NoEngine}
 use Rattle.planning.specs.declared.Refusal.{Refusal}
 use Rattle.planning.specs.declared.Mode.{Mode}
 use Rattle.planning.specs.Bounds.{most_engines, most_deliveries}
 use Rattle.planfile.specs.FilePlan.{FilePlan, begun}
-use Rattle.planfile.specs.Reading.{Read, refused, accepted, ◌>>=◌, fault, require, read_records}
+use Rattle.planfile.specs.Reading.{Read, refused, accepted, ◌>>=◌, fault, require, fields_of, read_records}
 use Rattle.planreader.specs.declared.FilePlan.{FilePlan as ByValue}
 use Rattle.planreader.specs.Columns.{engine_item, by_value, reading_of}
 use Rattle.planreader.specs.Laws.Columns.{filled-nothing, filled-count}
-use Rattle.planreader.specs.Laws.FourFields.{text-broken}
 use Rattle.planreader.specs.Laws.Quiet.{spans-nothing}
 use Rattle.planreader.specs.Laws.Records.{text_faulty, records-refused, records-added}
 use Rattle.planreader.specs.Records.{PlanIn, read_text, AddsBehind, AddsRecord, require_engine, read_behind, begun_by, IsBegun, RecordsBy}
@@ -88,10 +85,10 @@ module _ {file : List ℕ} {start : ℕ} {b : FilePlan} {p : ByValue} {from plac
   pending-refused after what h =
       rw (s.left ∙ ap (read_records s.so_far place) next.first ∙ records-refused s.so_far place text _ what (h place))
 
-  -- it breaks the grammar
-  pub pending_broken : (after : ByValue) → field_values text ≡ none
-      → RecordsBy (read_behind file start b) after (Err (record { fault = Grammar; place = place }))
-  pending_broken after broken = pending-refused after Grammar (text_faulty text Grammar (text-broken text broken) s.so_far)
+  -- it breaks the grammar or has not four fields
+  pub pending_broken : (after : ByValue) (what : Fault) → ((r : ℕ) → fields_of r text ≡ fault what r)
+      → RecordsBy (read_behind file start b) after (Err (record { fault = what; place = place }))
+  pending_broken after what broken = pending-refused after what (text_faulty text what broken s.so_far)
 
   -- as the function that adds a record says it, of a text that is this one: over variables, so that a caller rewrites no large goal
   told : (after : ByValue) (own : List ℕ) (how : Result (Unit {0}) Fault) → own ≡ text → AddsRecord own p after how → AddsBehind text s.so_far after how

@@ -1,9 +1,12 @@
 -- A quiet span of a record, one check after the other, and the plan by value with it. Assumes nothing.
-use Rattle.std.specs.Prelude.{◌≡◌, refl, ◌⊎◌, Bool, None, Some, Result, Ok, Err, ℕ, suc, ◌+◌, ◌*◌, ◌≤◌, ◌<◌, length, take}
+use Rattle.std.specs.Prelude.{◌≡◌, refl, ◌⊎◌, Bool, None, Some, Result, Ok, Err, ℕ, zero, suc, ◌+◌, ◌*◌, ◌-◌, ◌≤◌, ◌<◌, length, replicate}
 use Rattle.std.proofs.Math.Path.{sym, ap}
-use Rattle.std.proofs.Common.{◌∙◌, inl, inr, arith, length-append, length-take-le}
+use Rattle.std.proofs.Common.{◌∙◌, inl, inr, arith, length-append, take_at}
 use Rattle.std.proofs.Math.Bool.{true, false}
-use mathlib.Core.List.{List, [], ◌∷◌, ◌++◌, append_assoc}
+use mathlib.Core.List.{List, [], ◌∷◌, ◌++◌, map, map-append}
+use Rattle.std.proofs.Math.ListN.{length-map}
+use Rattle.std.proofs.lemmas.List.{length-replicate}
+use Rattle.std.specs.List.{flat_map}
 use Rattle.std.proofs.Math.Option.{none}
 use borrow.Author.Tests.{lt-ltb, le-ltb}
 use Rattle.planning.specs.declared.Fault.{Fault}
@@ -11,9 +14,9 @@ use Rattle.planning.specs.declared.Fault.TheVariants.{Value, UnknownEngine, Quie
 use Rattle.planning.specs.Bounds.{most_engines, most_quiet, most_minutes}
 use Rattle.planning.proofs.Laws.Finite.Decisions.{le-or-lt}
 use Rattle.planning.proofs.Laws.Numbers.{QuietKept, kept-none, kept_more, kept_wider, then-iff, check-iff, within-iff}
-use Rattle.planning.proofs.Laws.Padded.{length-padded, take-padded}
+use Rattle.planning.specs.Tables.{filled}
 use Rattle.planning.proofs.Laws.Quiet.{few-spans}
-use Rattle.planning.proofs.Laws.Triples.{quiet-count, quiet_triples, length_triples, triples_append}
+use Rattle.planning.proofs.Laws.Triples.{quiet-count, quiet_triples}
 use Rattle.planning.specs.Numbers.{triples_of, quiet_fault}
 use Rattle.planning.specs.Plan.{All, Within}
 use Rattle.planning.specs.Quiet.{Quiet, spans_of, fits}
@@ -24,14 +27,14 @@ use Rattle.planfile.specs.Numerals.{number_of}
 use Rattle.planfile.specs.Reading.{accepted, ◌>>=◌, fault, require, read_number, FourFields, place_of, read_span, read_quiet}
 use Rattle.planreader.specs.declared.FilePlan.{FilePlan as ByValue}
 use Rattle.planreader.specs.declared.quiet.Span.{Span}
-use Rattle.planreader.specs.Columns.{quiet_column_of}
+use Rattle.planreader.specs.Columns.{three_of, quiet_column_of}
 use Rattle.planreader.specs.Items.{place_among, three_fields}
 use Rattle.planreader.specs.Laws.Names.{same-lengths, placed-none, placed-some}
-use Rattle.planreader.specs.Laws.Padding.{padded-set}
+use Rattle.planreader.specs.Laws.Padding.{stored-behind}
 use Rattle.planreader.specs.Laws.Parts.{by_ranged, read-by-ranged}
 use Rattle.planreader.specs.Fields.{NameFor}
 use Rattle.planreader.specs.Parts.{ranged_of}
-use Rattle.planreader.specs.Plans.{names_in, quiet_in, QuietHeld}
+use Rattle.planreader.specs.Plans.{names_in, numbers_in, quiet_in, QuietHeld}
 use Rattle.planreader.specs.Quiet.{quiet_by, QuietReads, SpanRead, AddsQuiet, with_span}
 use Rattle.planreader.specs.Records.{SpansIn}
 
@@ -155,12 +158,20 @@ module _ {engines : ℕ} {quiet : List Quiet} (q : Quiet) (few : engines ≤ mos
         few-spans engines (quiet ++ q ∷ []) more-kept.known more-kept.ranges,
       )
 
+-- three numbers stand for each span
+pub length-numbers : (n : ℕ) (column : List (List ℕ)) → All (λ (three : List ℕ). length three ≡ 3) column → n ≤ length column
+    → length (numbers_in n column) ≡ 3 * n
+length-numbers zero column threes l = refl
+length-numbers (suc n) [] threes l = absurd (omega arith)
+length-numbers (suc n) (three ∷ column) threes l =
+    omega (arith, length-append three (numbers_in n column), threes.0, length-numbers n column threes.1 (omega arith))
+
 -- there is room for it
-pub span-room : {engines n : ℕ} {column : List ℕ} (q : Quiet) → engines ≤ most_engines → QuietHeld engines n column
+pub span-room : {engines n : ℕ} {column : List (List ℕ)} (q : Quiet) → engines ≤ most_engines → QuietHeld engines n column
     → quiet_fault engines (quiet_in n column) q ≡ none → n < most_quiet
 span-room {engines} {n} {column} q few held sound =
-    let front = length-take-le (3 * n) column (omega (arith, held.room, held.whole)) in
-    omega (arith, quiet-count (take (3 * n) column), front, more_room q few (record { known = held.known; ranges = held.ranges }) sound)
+    let numbers = length-numbers n column held.threes (omega (arith, held.room, held.whole)) in
+    omega (arith, quiet-count (numbers_in n column), numbers, more_room q few (record { known = held.known; ranges = held.ranges }) sound)
 
 -- in a plan by value
 pub span-fits : (p : ByValue) (x : FourFields) (s : Span) → p.engines.count ≤ most_engines → length (names_in p.engines) ≡ p.engines.count
@@ -168,28 +179,32 @@ pub span-fits : (p : ByValue) (x : FourFields) (s : Span) → p.engines.count �
 unfolding SpanRead
 span-fits p x s few count held read = span-room (quiet_by s) few held (rw count at read.0)
 
+-- the numbers of spans, one behind the other
+numbers-back : (quiet : List Quiet) → flat_map (λ three. three) (map three_of quiet) ≡ triples_of quiet
+unfolding triples_of
+numbers-back [] = refl
+numbers-back (q ∷ quiet) = ap (λ (others : List ℕ). q.engine ∷ q.span.from ∷ q.span.to ∷ others) (numbers-back quiet)
+
 -- read back
 pub quiet-back : (quiet : List Quiet) → quiet_in (length quiet) (quiet_column_of quiet) ≡ quiet
-quiet-back quiet = rw (← length_triples quiet, take-padded (3 * most_quiet) (triples_of quiet), quiet_triples quiet)
+quiet-back quiet =
+    let threes = map three_of quiet in
+    let size : length quiet ≡ length threes = sym (length-map quiet three_of) in
+    rw (take_at threes (replicate (most_quiet - length threes) (0 ∷ 0 ∷ 0 ∷ [])) (length quiet) (sym size), numbers-back quiet, quiet_triples quiet)
 
 -- with one span more
 column_more : (quiet : List Quiet) (n : ℕ) (s : Span) → n ≡ length quiet → length quiet < most_quiet
     → with_span n s (quiet_column_of quiet) ≡ quiet_column_of (quiet ++ quiet_by s ∷ [])
-unfolding with_span triples_of
+unfolding with_span
 column_more quiet n s count room =
-    let before = triples_of quiet in
-    let one = before ++ s.engine ∷ [] in
-    let two = one ++ s.from ∷ [] in
-    let size : length before ≡ 3 * n = omega (arith, length_triples quiet) in
-    let size₁ : length one ≡ 3 * n + 1 = omega (arith, length-append before (s.engine ∷ [])) in
-    let size₂ : length two ≡ 3 * n + 2 = omega (arith, length-append one (s.from ∷ [])) in
-    rw (
-      padded-set (3 * most_quiet) (3 * n) before s.engine (sym size) (omega arith),
-      padded-set (3 * most_quiet) (3 * n + 1) one s.from (sym size₁) (omega arith),
-      padded-set (3 * most_quiet) (3 * n + 2) two s.to (sym size₂) (omega arith),
-      triples_append quiet (quiet_by s ∷ []),
-    )
-    (simp append_assoc)
+    stored-behind (0 ∷ 0 ∷ 0 ∷ []) most_quiet n (map three_of quiet) (three_of (quiet_by s)) (count ∙ sym (length-map quiet three_of)) (omega arith)
+    ∙ ap (filled (0 ∷ 0 ∷ 0 ∷ []) most_quiet) (sym (map-append three_of quiet (quiet_by s ∷ [])))
+
+-- the column has three numbers for each place
+threes-of : (quiet : List Quiet) (k : ℕ) → All (λ (three : List ℕ). length three ≡ 3) (map three_of quiet ++ replicate k (0 ∷ 0 ∷ 0 ∷ []))
+threes-of [] zero = tt
+threes-of [] (suc k) = (refl, threes-of [] k)
+threes-of (q ∷ quiet) k = (refl, threes-of quiet k)
 
 -- an empty column holds nothing
 pub spans-nothing : SpansIn 0 [] 0 (quiet_column_of [])
@@ -197,7 +212,7 @@ spans-nothing =
     let kept = kept-none 0 in
     record { count = refl; room = omega arith; filled = refl; known = kept.known; ranges = kept.ranges }
 
-module _ {engines n : ℕ} {quiet : List Quiet} {column : List ℕ} (s : SpansIn engines quiet n column) where
+module _ {engines n : ℕ} {quiet : List Quiet} {column : List (List ℕ)} (s : SpansIn engines quiet n column) where
   pub spans-in : quiet_in n column ≡ quiet
   spans-in = rw (s.count, s.filled) (quiet-back quiet)
 
@@ -209,7 +224,15 @@ module _ {engines n : ℕ} {quiet : List Quiet} {column : List ℕ} (s : SpansIn
   spans-held =
       record {
         room = s.room;
-        whole = rw s.filled (length-padded (3 * most_quiet) (triples_of quiet) (omega (arith, length_triples quiet, s.count, s.room)));
+        whole = rw s.filled (omega (
+          arith,
+          s.count,
+          s.room,
+          length-map quiet three_of,
+          length-append (map three_of quiet) (replicate {A = List ℕ} (most_quiet - length (map three_of quiet)) (0 ∷ 0 ∷ 0 ∷ [])),
+          length-replicate {A = List ℕ} (most_quiet - length (map three_of quiet)) (0 ∷ 0 ∷ 0 ∷ []),
+        ));
+        threes = rw s.filled (threes-of quiet (most_quiet - length (map three_of quiet)));
         known = rw spans-in s.known;
         ranges = λ i. rw spans-in (s.ranges i);
       }

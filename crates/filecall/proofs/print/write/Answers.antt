@@ -30,13 +30,13 @@ module _ (answer : Answer) {o : Outcome} (deliveries engines : List (List ℕ)) 
 pub returns-in_err-at-in-Found : goal.returns-in_err-at-in-Found
 unfolding ascii word_of lines_behind
 returns-in_err-at-in-Found c =
-    let counted = c.count_pieces.ensures ∙ sym (table-lines c.args.deliveries.now c.args.engines.now c.args.pieces.now c.requires) in
+    let counted = c.count_pieces-count.ensures ∙ sym (table-lines c.args.deliveries.now c.args.engines.now c.args.pieces.now c.requires) in
     print-error c.args.answer {o = Found} _ _ _ c.in-Found.is counted c.in_err-at-in-Found.ensures c.from_residual.ensures.1
 
 pub returns-in_ok-at-in-Found : goal.returns-in_ok-at-in-Found
 unfolding ascii word_of lines_behind
 returns-in_ok-at-in-Found c =
-    let counted = c.count_pieces.ensures ∙ sym (table-lines c.args.deliveries.now c.args.engines.now c.args.pieces.now c.requires) in
+    let counted = c.count_pieces-count.ensures ∙ sym (table-lines c.args.deliveries.now c.args.engines.now c.args.pieces.now c.requires) in
     print-put c.args.answer {o = Found} _ _ _ c.in-Found.is counted c.in_ok-at-in-Found.ensures c.write_rows.ensures
 
 pub returns-in-None : goal.returns-in-None

@@ -10,26 +10,14 @@ pub returns-in_err-span : goal.returns-in_err-span
 unfolding AddsQuiet
 returns-in_err-span c =
     let (fault, is, same) = err_from_is_err_and c.from_residual.result c.from_residual.ensures.1 in
-    rw (is, same) c.in_err-span.ensures
+    rw (is, same) (rw c.as_flattened.ensures.value at c.in_err-span.ensures)
 
-pub bounds-self-at : goal.bounds-self-at
-bounds-self-at c =
+pub bounds-self-k : goal.bounds-self-k
+bounds-self-k c =
     let p = c.args.self.now in
     let count : length (names_in p.engines) ≡ p.engines.count = omega (arith, length-take p.engines.count p.engines.names) in
-    omega (arith, span-fits p _ c.in_ok-span.span c.requires.0 count c.requires.1 c.in_ok-span.ensures)
-
-pub bounds-self-at-2 : goal.bounds-self-at-2
-bounds-self-at-2 c =
-    let p = c.args.self.now in
-    let count : length (names_in p.engines) ≡ p.engines.count = omega (arith, length-take p.engines.count p.engines.names) in
-    omega (arith, span-fits p _ c.in_ok-span.span c.requires.0 count c.requires.1 c.in_ok-span.ensures)
-
-pub bounds-self-at-3 : goal.bounds-self-at-3
-bounds-self-at-3 c =
-    let p = c.args.self.now in
-    let count : length (names_in p.engines) ≡ p.engines.count = omega (arith, length-take p.engines.count p.engines.names) in
-    omega (arith, span-fits p _ c.in_ok-span.span c.requires.0 count c.requires.1 c.in_ok-span.ensures)
+    omega (arith, span-fits p _ c.in_ok-span.span c.requires.0 count c.requires.1 (rw c.as_flattened.ensures.value at c.in_ok-span.ensures))
 
 pub returns : goal.returns
 unfolding AddsQuiet plan_with_span with_span
-returns c = (c.in_ok-span.span, c.in_ok-span.ensures, refl)
+returns c = (c.in_ok-span.span, rw c.as_flattened.ensures.value at c.in_ok-span.ensures, refl)

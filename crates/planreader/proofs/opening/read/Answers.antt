@@ -4,22 +4,18 @@ use Rattle.rfc4180.specs.Text.{ascii}
 use Rattle.planning.specs.Bounds.{most_minutes, most_tries}
 use Rattle.planfile.specs.Reading.{same, read_mode}
 use Rattle.planreader.specs.Laws.Exits.{exit}
-use Rattle.planreader.specs.Laws.FourFields.{cut-other, cut_four}
+use Rattle.planreader.specs.Laws.FourFields.{cut_four}
 use Rattle.planreader.specs.Laws.Names.{contrasted}
-use Rattle.planreader.specs.Laws.Opening.{opening_faulty, opening_insides, plan_kind, plan-mode, plan-minutes, plan-allowance, plan-read}
+use Rattle.planreader.specs.Laws.Opening.{opening_insides, plan_kind, plan-mode, plan-minutes, plan-allowance, plan-read}
 use Rattle.planreader.specs.Opening.{mode_read, opening_read}
 use Rattle.planreader.specs.Parts.{ranged_of}
 use Rattle.planreader.proofs.opening.read.Goals as goal
-
-pub returns-then-entry-ne4 : goal.returns-then-entry-ne4
-unfolding opening_read
-returns-then-entry-ne4 c = sym (opening_faulty _ _ (cut-other c.args.entry.now.cut c.if-entry-ne4.true 1))
 
 pub returns-then-ne : goal.returns-then-ne
 unfolding opening_read ascii
 returns-then-ne c =
     sym
-    (opening_insides (cut_four c.args.entry.now.cut c.if-entry-ne4.false).1
+    (opening_insides (cut_four c.args.entry.now.cut).1
     ∙ plan_kind _ (contrasted true _ _ c.if-ne.ensures c.as_slice.ensures ∙ ap (λ (word : List ℕ). same word (ascii "plan")) c.part.ensures))
 
 pub returns-in_err-mode : goal.returns-in_err-mode
@@ -28,7 +24,7 @@ returns-in_err-mode c =
     let (none, is) = exit c.from_residual.result c.from_residual.ensures.1 c.in_err-mode.ensures.value in
     rw is
     (sym
-    (opening_insides (cut_four c.args.entry.now.cut c.if-entry-ne4.false).1
+    (opening_insides (cut_four c.args.entry.now.cut).1
     ∙ plan-mode _ (contrasted false _ _ c.if-ne.ensures c.as_slice.ensures ∙ ap (λ (word : List ℕ). same word (ascii "plan")) c.part.ensures)
     (ap mode_read (sym none) ∙ c.mode_of.ensures ∙ ap (read_mode 1) c.part-2.ensures)))
 
@@ -38,7 +34,7 @@ returns-in_err-minutes c =
     let (none, is) = exit c.from_residual-in_err-minutes.result c.from_residual-in_err-minutes.ensures.1 c.in_err-minutes.ensures.value in
     rw is
     (sym
-    (opening_insides (cut_four c.args.entry.now.cut c.if-entry-ne4.false).1
+    (opening_insides (cut_four c.args.entry.now.cut).1
     ∙ plan-minutes _ (contrasted false _ _ c.if-ne.ensures c.as_slice.ensures ∙ ap (λ (word : List ℕ). same word (ascii "plan")) c.part.ensures)
     _ (ap mode_read (sym c.in_ok-mode.ensures.ok_part) ∙ c.mode_of.ensures ∙ ap (read_mode 1) c.part-2.ensures)
     (sym none ∙ c.in_range.ensures ∙ ap (ranged_of 1 most_minutes) c.part-3.ensures)))
@@ -49,7 +45,7 @@ returns-in_err-allowance c =
     let (none, is) = exit c.from_residual-in_err-allowance.result c.from_residual-in_err-allowance.ensures.1 c.in_err-allowance.ensures.value in
     rw is
     (sym
-    (opening_insides (cut_four c.args.entry.now.cut c.if-entry-ne4.false).1
+    (opening_insides (cut_four c.args.entry.now.cut).1
     ∙ plan-allowance _ (contrasted false _ _ c.if-ne.ensures c.as_slice.ensures ∙ ap (λ (word : List ℕ). same word (ascii "plan")) c.part.ensures)
     _ (ap mode_read (sym c.in_ok-mode.ensures.ok_part) ∙ c.mode_of.ensures ∙ ap (read_mode 1) c.part-2.ensures)
     (sym c.in_ok-minutes.ensures.ok_part ∙ c.in_range.ensures ∙ ap (ranged_of 1 most_minutes) c.part-3.ensures)
@@ -59,7 +55,7 @@ pub returns : goal.returns
 unfolding opening_read ascii
 returns c =
     sym
-    (opening_insides (cut_four c.args.entry.now.cut c.if-entry-ne4.false).1
+    (opening_insides (cut_four c.args.entry.now.cut).1
     ∙ plan-read _ (contrasted false _ _ c.if-ne.ensures c.as_slice.ensures ∙ ap (λ (word : List ℕ). same word (ascii "plan")) c.part.ensures)
     _ (ap mode_read (sym c.in_ok-mode.ensures.ok_part) ∙ c.mode_of.ensures ∙ ap (read_mode 1) c.part-2.ensures)
     (sym c.in_ok-minutes.ensures.ok_part ∙ c.in_range.ensures ∙ ap (ranged_of 1 most_minutes) c.part-3.ensures)

@@ -8,13 +8,13 @@ use Rattle.planreader.proofs.entry.Entry.name.Goals as goal
 pub returns-then-not-self : goal.returns-then-not-self
 returns-then-not-self c value e =
     name-part _ value _ (ap field_value c.raw-field.ensures ∙ e) c.part_of-inside.ensures
-    (sym ((c.args.self.now.cut.stand 1 (omega (arith, c.requires.0)) (omega arith)).quotes e) ∙ c.if-not-self.true)
+    (sym ((c.args.self.now.cut.stand 1 (omega arith) (omega arith)).quotes e) ∙ c.if-not-self.true)
 
 pub returns-in-Ok : goal.returns-in-Ok
 returns-in-Ok c value e =
-    name-undone _ value _ (ap field_value c.raw-field.ensures ∙ e) c.part_of-inside.ensures _ c.requires.1 c.undo.ensures _ c.in-Ok.is
+    name-undone _ value _ (ap field_value c.raw-field.ensures ∙ e) c.part_of-inside.ensures _ c.requires c.undo.ensures _ c.in-Ok.is
 
 -- too long
 pub returns-in-Err : goal.returns-in-Err
 returns-in-Err c value e =
-    name_too_long _ value _ (ap field_value c.raw-field.ensures ∙ e) c.part_of-inside.ensures _ c.requires.1 c.undo.ensures c.in-Err.is
+    name_too_long _ value _ (ap field_value c.raw-field.ensures ∙ e) c.part_of-inside.ensures _ c.requires c.undo.ensures c.in-Err.is

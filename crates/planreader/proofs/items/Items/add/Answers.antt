@@ -2,7 +2,7 @@
 use Rattle.std.proofs.Common.{sym, ap, ◌∙◌, arith, length-take}
 use Rattle.std.specs.Option.{is_some}
 use Rattle.planfile.proofs.Laws.Tests.{sound-name-iff}
-use Rattle.planreader.specs.Items.{three_fields, with_item, Adds}
+use Rattle.planreader.specs.Items.{fields_in, with_item, Adds}
 use Rattle.planreader.specs.Laws.Exits.{exit}
 use Rattle.planreader.specs.Laws.Items.{item_full, item_name, item_first, item_second, item-read}
 use Rattle.planreader.specs.Laws.Names.{name_told}
@@ -19,11 +19,11 @@ pub returns-then-not-is_sound : goal.returns-then-not-is_sound
 unfolding Adds
 returns-then-not-is_sound g c place =
     let count = length-take c.args.self.now.count c.args.self.now.names in
-    item_name g.row.MOST c.args.rule _ place (three_fields c.args.name.now c.args.third.now c.args.fourth.now) (omega arith)
+    item_name g.row.MOST c.args.rule _ place (fields_in c.args.fields) (omega arith)
     (elim c.then-not-is_sound.branch [
       | then-not-is_sound-via-then-not-is_sound w ↦ rw (sym c.is_sound.ensures ∙ w.if-not-is_sound.true)
       | then-not-is_sound-via-else-not-is_sound+then-is_some w ↦
-          name_told c.args.name.now _ c.is_sound.ensures (w.is_some.ensures ∙ ap is_some w.find.ensures)
+          name_told c.args.fields.name.now _ c.is_sound.ensures (w.is_some.ensures ∙ ap is_some w.find.ensures)
           ∙ rw (w.if-not-is_sound.false, w.if-is_some.true)
     ])
 
@@ -34,8 +34,8 @@ returns-in_err-first g c =
     let (none, is) = exit c.from_residual.result c.from_residual.ensures.1 c.in_err-first.ensures.value in
     rw is
     (λ place.
-    item_first g.row.MOST c.args.rule _ place (three_fields c.args.name.now c.args.third.now c.args.fourth.now) (omega arith)
-    (name_told c.args.name.now _ c.is_sound.ensures (c.is_some.ensures ∙ ap is_some c.find.ensures) ∙ rw (c.if-not-is_sound.false, c.if-is_some.false))
+    item_first g.row.MOST c.args.rule _ place (fields_in c.args.fields) (omega arith)
+    (name_told c.args.fields.name.now _ c.is_sound.ensures (c.is_some.ensures ∙ ap is_some c.find.ensures) ∙ rw (c.if-not-is_sound.false, c.if-is_some.false))
     (sym c.in_range.ensures ∙ none))
 
 pub returns-in_err-second : goal.returns-in_err-second
@@ -45,12 +45,12 @@ returns-in_err-second g c =
     let (none, is) = exit c.from_residual-in_err-second.result c.from_residual-in_err-second.ensures.1 c.in_err-second.ensures.value in
     rw is
     (λ place.
-    item_second g.row.MOST c.args.rule _ place (three_fields c.args.name.now c.args.third.now c.args.fourth.now) (omega arith)
-    (name_told c.args.name.now _ c.is_sound.ensures (c.is_some.ensures ∙ ap is_some c.find.ensures) ∙ rw (c.if-not-is_sound.false, c.if-is_some.false))
+    item_second g.row.MOST c.args.rule _ place (fields_in c.args.fields) (omega arith)
+    (name_told c.args.fields.name.now _ c.is_sound.ensures (c.is_some.ensures ∙ ap is_some c.find.ensures) ∙ rw (c.if-not-is_sound.false, c.if-is_some.false))
     _ (sym c.in_range.ensures ∙ c.in_ok-first.ensures.ok_part) (sym c.in_range-2.ensures ∙ none))
 
 pub of-requires : goal.of-requires
-of-requires g c = ((sound-name-iff c.args.name.now).0 (sym c.is_sound.ensures ∙ c.if-not-is_sound.false)).size.most
+of-requires g c = ((sound-name-iff c.args.fields.name.now).0 (sym c.is_sound.ensures ∙ c.if-not-is_sound.false)).size.most
 
 pub returns : goal.returns
 unfolding Adds with_item
@@ -58,8 +58,8 @@ returns g c =
     let count = length-take c.args.self.now.count c.args.self.now.names in (
       record { first = c.in_ok-first.first; second = c.in_ok-second.second },
       λ place.
-          item-read g.row.MOST c.args.rule _ place (three_fields c.args.name.now c.args.third.now c.args.fourth.now) (omega arith)
-          (name_told c.args.name.now _ c.is_sound.ensures (c.is_some.ensures ∙ ap is_some c.find.ensures)
+          item-read g.row.MOST c.args.rule _ place (fields_in c.args.fields) (omega arith)
+          (name_told c.args.fields.name.now _ c.is_sound.ensures (c.is_some.ensures ∙ ap is_some c.find.ensures)
           ∙ rw (c.if-not-is_sound.false, c.if-is_some.false))
           _ (sym c.in_range.ensures ∙ c.in_ok-first.ensures.ok_part) _ (sym c.in_range-2.ensures ∙ c.in_ok-second.ensures.ok_part),
       rw c.of.ensures,
