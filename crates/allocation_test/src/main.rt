@@ -21,6 +21,8 @@ const SPARE_PATTERN: u64 = 8;
 const ROOM: usize = 1024;
 
 // A list of which the front is lent to a call, filled with a pattern. An array and a count, since what stands behind the front is looked at.
+// Tried: a ghost bound of the count in place of `min`, but the check has no rule for a `&mut` slice of a struct with a ghost field.
+// exhaustive_test has its own: one in `report` would promise what is left behind that slice, and the check has no rule for that of an array.
 #[derive(Clone, Copy)]
 struct Lent {
     numbers: [u64; ROOM],

@@ -3,19 +3,17 @@
 // byte behind each, its title, and its bytes. Where standard input cannot be read or standard output cannot be written, that error ends it.
 #![tactic(auto)]
 
-ghost use Rattle.std.specs.Prelude.{◌≤◌, ◌<◌, length, IfSome};
+ghost use Rattle.std.specs.Prelude.{◌<◌, length, IfSome};
 
 use csv_fields::{FieldForm, FieldRead, UndoError};
 use lines::WriteError;
 use report::{Scanner, print, read_full, shown_page};
 use std::io::{self, Write};
 
-// The value of a field with doubled quotes, with so much space to undo them in.
-fn show_undone<W: Write>(to: &mut W, raw: &[u8], room: usize) -> io::Result<()>
-    requires { room ≤ 4096 }
-{
+// The value of a field with doubled quotes, with so much space to undo them in; none where that is more than there is.
+fn show_undone<W: Write>(to: &mut W, raw: &[u8], room: usize) -> io::Result<()> {
     let mut space = [0u8; 4096];
-    match csv_fields::undo(raw, &mut space[..room]) {
+    match csv_fields::undo(raw, space.get_mut(..room).unwrap_or(&mut [])) {
         Ok(n) => print(to, shown_page(b" ", &space[..n], b"")),
         Err(UndoError::TooLong) => to.write_all(b" too long"),
         Err(UndoError::Broken) => to.write_all(b" broken"),
@@ -96,9 +94,7 @@ fn show_file<W: Write>(to: &mut W, file: &[u8]) -> io::Result<()> {
 }
 
 // A value of n bytes read back from what it was written as, with just enough space and with a byte less.
-fn show_back<W: Write>(to: &mut W, raw: &[u8], n: usize) -> io::Result<()>
-    requires { n ≤ 4096 }
-{
+fn show_back<W: Write>(to: &mut W, raw: &[u8], n: usize) -> io::Result<()> {
     show_undone(to, raw, n)?;
     if 0 < n {
         to.write_all(b", with a byte less")?;
@@ -108,9 +104,7 @@ fn show_back<W: Write>(to: &mut W, raw: &[u8], n: usize) -> io::Result<()>
 }
 
 // What a value is written as between dots, and the value read back from there.
-fn show_written<W: Write>(to: &mut W, value: &[u8]) -> io::Result<()>
-    requires { length value.now ≤ 4096 }
-{
+fn show_written<W: Write>(to: &mut W, value: &[u8]) -> io::Result<()> {
     let mut output = [b'.'; 24];
     let wrote = lines::write_field(value, b"", &mut output, 2);
     print(to, shown_page(b"\nvalue ", value, b""))?;
@@ -122,30 +116,33 @@ fn show_written<W: Write>(to: &mut W, value: &[u8]) -> io::Result<()>
     }
 }
 
-// A file to read, where the letter says so, or a value to write, and its title.
+// A file to read, or a value to write.
 #[derive(Clone, Copy)]
-struct Example<'a> {
-    letter: u8,
+enum Example<'a> {
+    File(&'a [u8]),
+    Value(&'a [u8]),
+}
+
+// An example and its title.
+#[derive(Clone, Copy)]
+struct Titled<'a> {
     title: &'a [u8],
-    bytes: &'a [u8],
+    example: Example<'a>,
 }
 
 // An example: its title, and what comes of it.
-fn show_example<W: Write>(to: &mut W, example: Example<'_>) -> io::Result<()>
-    requires { length example.bytes.now ≤ 4096 }
-{
-    to.write_all(example.title)?;
-    match example.letter {
-        b'R' => show_file(to, example.bytes)?,
-        _ => show_written(to, example.bytes)?,
+fn show_example<W: Write>(to: &mut W, titled: Titled<'_>) -> io::Result<()> {
+    to.write_all(titled.title)?;
+    match titled.example {
+        Example::File(file) => show_file(to, file)?,
+        Example::Value(value) => show_written(to, value)?,
     }
     to.write_all(b"\n")
 }
 
 // The example that an input begins with, and what stands behind it; `None` where it is cut off.
-fn first_example(input: &[u8]) -> Option<(Example<'_>, &[u8])>
-    ensures small { IfSome result (λ found. length found.0.bytes.now ≤ 4096) }
-    ensures behind { IfSome result (λ found. length found.1.now < length input.now) }
+fn first_example(input: &[u8]) -> Option<(Titled<'_>, &[u8])>
+    ensures { IfSome result (λ found. length found.1.now < length input.now) }
 {
     let (letter, rest) = input.split_first()?;
     let mut lengths = Scanner { input: rest, at: 0 };
@@ -154,22 +151,21 @@ fn first_example(input: &[u8]) -> Option<(Example<'_>, &[u8])>
     let rest = rest.get(lengths.at.saturating_add(1)..)?;
     let (title, rest) = rest.split_at_checked(titled)?;
     let (bytes, rest) = rest.split_at_checked(sized)?;
-    let example = Example {
-        letter: *letter,
-        title,
-        bytes,
+    let example = match letter {
+        b'R' => Example::File(bytes),
+        _ => Example::Value(bytes),
     };
-    Some((example, rest))
+    Some((Titled { title, example }, rest))
 }
 
 // The examples of an input, one after the other.
 fn show_examples<W: Write>(to: &mut W, input: &[u8]) -> io::Result<()> {
     let mut rest = input;
     while !rest.is_empty() {
-        let Some((example, behind)) = first_example(rest) else {
+        let Some((titled, behind)) = first_example(rest) else {
             return to.write_all(b"cut off\n");
         };
-        show_example(to, example)?;
+        show_example(to, titled)?;
         rest = behind;
     }
     Ok(())

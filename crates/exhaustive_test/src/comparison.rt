@@ -20,9 +20,7 @@ pub(crate) struct Wrong;
 
 // The minutes of found, from 1 on; `None` for none in the plan's MINUTES.
 fn minutes_of(answer: Result<Answer, Refusal>, minutes: u64) -> Result<Option<u64>, Wrong> {
-    let Ok(answer) = answer else {
-        return Err(Wrong);
-    };
+    let answer = answer.map_err(|_| Wrong)?;
     match answer.outcome {
         Outcome::Found if 0 < answer.minutes => Ok(Some(answer.minutes)),
         Outcome::None if answer.minutes == minutes => Ok(None),

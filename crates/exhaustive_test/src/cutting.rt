@@ -23,26 +23,30 @@ pub(crate) fn given(task: Task, table: &[u64], engine: usize) -> u64 {
     })
 }
 
-// Whether at most LIMIT of a delivery's pieces are above 0, and they add up to n × ENERGY, or to no more where it is not whole yet.
-pub(crate) fn delivery_kept(
-    task: Task,
-    parts: u64,
-    table: &[u64],
-    delivery: usize,
-    whole: bool,
-) -> bool {
+// What a delivery asks for: n × ENERGY.
+pub(crate) fn wanted(task: Task, parts: u64, delivery: usize) -> u64 {
+    parts.saturating_mul(entry(task.energies, delivery))
+}
+
+// The sum of a delivery's pieces.
+fn drawn(task: Task, table: &[u64], delivery: usize) -> u64 {
     let row = row_of(task, table, delivery);
-    let drawn = row
-        .iter()
-        .fold(0, |sum: u64, piece| sum.saturating_add(*piece));
+    row.iter()
+        .fold(0, |sum: u64, piece| sum.saturating_add(*piece))
+}
+
+// Whether at most LIMIT of a delivery's pieces are above 0, and they add up to no more than it asks for.
+pub(crate) fn delivery_kept(task: Task, parts: u64, table: &[u64], delivery: usize) -> bool {
+    let row = row_of(task, table, delivery);
     let meters = row.iter().filter(|piece| 0 < **piece).count() as u64;
-    let wanted = parts.saturating_mul(entry(task.energies, delivery));
     meters <= entry(task.limits, delivery)
-        && if whole {
-            drawn == wanted
-        } else {
-            drawn <= wanted
-        }
+        && drawn(task, table, delivery) <= wanted(task, parts, delivery)
+}
+
+// Whether at most LIMIT of a delivery's pieces are above 0, and they add up to what it asks for.
+pub(crate) fn delivery_served(task: Task, parts: u64, table: &[u64], delivery: usize) -> bool {
+    delivery_kept(task, parts, table, delivery)
+        && drawn(task, table, delivery) == wanted(task, parts, delivery)
 }
 
 // Whether an engine's pieces add up to at most n × its capacity.
@@ -52,6 +56,6 @@ pub(crate) fn engine_suffices(task: Task, parts: u64, table: &[u64], engine: usi
 
 // Whether a table is a cutting in n parts that serves the task: every delivery is served, and every engine suffices.
 pub(crate) fn serves(task: Task, parts: u64, table: &[u64]) -> bool {
-    (0..task.energies.len()).all(|delivery| delivery_kept(task, parts, table, delivery, true))
+    (0..task.energies.len()).all(|delivery| delivery_served(task, parts, table, delivery))
         && (0..task.capacities.len()).all(|engine| engine_suffices(task, parts, table, engine))
 }

@@ -1,7 +1,7 @@
 // The exhaustive planner: it tries every cutting. It knows what a cutting is and nothing of the search: no bulk, no saturation, no
 // straight fill. Cells are filled in the order of the table, each with every piece from 0; pieces that are already too much for the
 // delivery or the engine are not continued.
-use crate::cutting::{delivery_kept, engine_suffices, serves};
+use crate::cutting::{delivery_kept, delivery_served, engine_suffices, serves, wanted};
 use crate::lists::List;
 use crate::tasks::{Task, capacities_of, task_of};
 use planning::PlanLists;
@@ -13,18 +13,22 @@ fn place_of(task: Task, cell: usize) -> (usize, usize) {
     (cell / engines, cell % engines)
 }
 
-// Whether the piece in a cell, with 0 in every cell behind it, breaks neither a sum nor the limit. Where it ends a row, its delivery is whole.
+// Whether the piece in a cell, with 0 in every cell behind it, breaks neither a sum nor the limit. Where it ends a row, its delivery is served.
 fn keeps(task: Task, parts: u64, cells: &[u64], cell: usize) -> bool {
     let (delivery, engine) = place_of(task, cell);
-    let whole = engine.saturating_add(1) == task.capacities.len();
+    let ends_row = engine.saturating_add(1) == task.capacities.len();
     engine_suffices(task, parts, cells, engine)
-        && delivery_kept(task, parts, cells, delivery, whole)
+        && if ends_row {
+            delivery_served(task, parts, cells, delivery)
+        } else {
+            delivery_kept(task, parts, cells, delivery)
+        }
 }
 
 // The largest piece that a cell can hold: all that its delivery asks for.
 fn most_at(task: Task, parts: u64, cell: usize) -> u64 {
     let (delivery, _) = place_of(task, cell);
-    parts.saturating_mul(task.energies.get(delivery).copied().unwrap_or(0))
+    wanted(task, parts, delivery)
 }
 
 // Whether some cutting that serves begins with the pieces before a place. From there on the cells are 0, and are again where none does.

@@ -4,6 +4,8 @@
 const ROOM: usize = 20;
 
 // A list of the first numbers, so many. An array and a count, since nothing is allocated here and what stands behind the list is looked at.
+// Tried: a ghost bound of the count in place of `min`, but the check has no rule for a `&mut` slice of a struct with a ghost field.
+// allocation_test has its own: one in `report` would promise what is left behind that slice, and the check has no rule for that of an array.
 #[derive(Clone, Copy)]
 pub(crate) struct List {
     pub numbers: [u64; ROOM],

@@ -89,16 +89,17 @@ fn check_all_quiet<W: Write>(to: &mut W) -> io::Result<()> {
     total.print_quiet(to)
 }
 
-// Every small plan, of those with 3 engines under `shortest` one in 5, and then samples of larger ones: a wrong second cut shows with 4
-// engines, and bulk by whole division breaks no limit with fewer than 5. One plan in 59 takes in a plan where it does.
-fn check_all<W: Write>(to: &mut W) -> io::Result<()> {
-    to.write_all(
-        b"The allocation's answers against those of trying every cutting in 1, 2 and 3 parts of a watt-hour.\n",
-    )?;
-    let mut total = Tally::default();
+// Every small plan, of those with 3 engines under `shortest` one in 5.
+fn check_all_small<W: Write>(to: &mut W, total: &mut Tally) -> io::Result<()> {
     for (engines, step_shortest) in [(1, 1), (2, 1), (3, 5)] {
-        check_small(to, engines, step_shortest, &mut total)?;
+        check_small(to, engines, step_shortest, total)?;
     }
+    Ok(())
+}
+
+// Samples of larger plans: a wrong second cut shows with 4 engines, and bulk by whole division breaks no limit with fewer than 5. One plan
+// in 59 takes in a plan where it does.
+fn check_samples<W: Write>(to: &mut W, total: &mut Tally) -> io::Result<()> {
     let samples = [
         Group::fixed(shape(2, 4, 5, 6, 2), 101),
         Group::fixed(shape(3, 3, 5, 6, 3), 211),
@@ -108,8 +109,19 @@ fn check_all<W: Write>(to: &mut W) -> io::Result<()> {
         Group::shortest(8, shape(3, 3, 5, 5, 3), 499),
     ];
     for sample in &samples {
-        sample.check(to, &mut total)?;
+        sample.check(to, total)?;
     }
+    Ok(())
+}
+
+// Plans without quiet spans, and then plans with them.
+fn check_all<W: Write>(to: &mut W) -> io::Result<()> {
+    to.write_all(
+        b"The allocation's answers against those of trying every cutting in 1, 2 and 3 parts of a watt-hour.\n",
+    )?;
+    let mut total = Tally::default();
+    check_all_small(to, &mut total)?;
+    check_samples(to, &mut total)?;
     print_total(to, b"all\n", &total)?;
     check_all_quiet(to)
 }

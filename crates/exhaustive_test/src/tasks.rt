@@ -13,7 +13,7 @@ pub(crate) struct Task<'a> {
 // Whether an engine, counted from 1, runs in a minute: no span of the list is the engine's and has the minute.
 fn runs(quiet: &[u64], engine: u64, minute: u64) -> bool {
     let (spans, _) = quiet.as_chunks::<3>();
-    !spans.iter().any(|[of, from, to]| *of == engine && *from <= minute && minute < *to)
+    !spans.iter().any(|[of, from, to]| *of == engine && (*from..*to).contains(&minute))
 }
 
 // How many of the minutes before one an engine, counted from 1, runs.

@@ -53,10 +53,9 @@ where
 
 // Writes the line of a refusal where so much of the space is lent for it, and answers its length.
 fn write_line(refusal: Refusal, space: &mut [u8], room: usize) -> usize {
-    match space.get_mut(..room) {
-        Some(lent) => filecall::write_refusal(refusal, lent),
-        None => 0,
-    }
+    space
+        .get_mut(..room)
+        .map_or(0, |lent| filecall::write_refusal(refusal, lent))
 }
 
 // Prints a refusal, and what the program `planner` prints of it, with just enough space and with a byte less.

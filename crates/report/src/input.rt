@@ -1,6 +1,6 @@
 // Numbers of an input. Anything that is no digit stands between them.
-ghost use Rattle.std.specs.Prelude.{◌≡◌, ◌+◌, drop};
-ghost use Rattle.report.specs.Input.{gap, token_at};
+ghost use Rattle.std.specs.Prelude.{◌≡◌, ◌+◌, drop, position};
+ghost use Rattle.report.specs.Input.{is_digit, gap, token_at};
 
 // A number, and the place behind it.
 #[derive(Clone, Copy)]
@@ -9,16 +9,28 @@ pub struct Token {
     pub next: usize,
 }
 
+// What stands from a place on.
+fn behind(bytes: &[u8], at: usize) -> &[u8]
+    ensures { result.now ≡ drop at bytes.now }
+{
+    bytes.get(at..).unwrap_or(&[])
+}
+
+// Where the first digit stands.
+#[tactic(auto, unfolding(crate::specs::Input::is_digit))]
+fn first_digit(bytes: &[u8]) -> Option<usize>
+    ensures { result ≡ position is_digit bytes.now }
+{
+    bytes.iter().position(u8::is_ascii_digit)
+}
+
 // Where the next digit stands, or the end.
+#[tactic(auto, using(crate::proofs::Laws::Input::gap_first))]
 fn next_digit(input: &[u8], from: usize) -> usize
     ensures { result ≡ from + gap (drop from input.now) }
 {
-    for at in from..input.len() {
-        if input[at].is_ascii_digit() {
-            return at;
-        }
-    }
-    from.max(input.len())
+    let rest = behind(input, from);
+    from + first_digit(rest).unwrap_or(rest.len())
 }
 
 // The number whose digits begin at a place or behind it, or the most where that is less; 0 where no digit follows, since an input that ends
@@ -27,11 +39,14 @@ pub fn number(input: &[u8], from: usize, most: u64) -> Token
     ensures { result ≡ token_at input.now from most }
 {
     let start = next_digit(input, from);
+    let rest = behind(input, start);
     let mut value: u64 = 0;
-    for at in start..input.len() {
-        let b = input[at];
+    for (i, b) in rest.iter().enumerate() {
         if !b.is_ascii_digit() {
-            return Token { value, next: at };
+            return Token {
+                value,
+                next: start + i,
+            };
         }
         value = value
             .saturating_mul(10)
@@ -40,6 +55,6 @@ pub fn number(input: &[u8], from: usize, most: u64) -> Token
     }
     Token {
         value,
-        next: start.max(input.len()),
+        next: start + rest.len(),
     }
 }

@@ -1,4 +1,5 @@
-// What the test programs read and print by: standard input read whole, its numbers, what they print put into a page, and a page written.
+// What the test programs read and print by: a stream read whole and the numbers in it; words, numbers, bytes, modes, answers and refusals put
+// into a page; and a page written to a stream.
 #![tactic(auto)]
 
 mod answers;

@@ -11,13 +11,15 @@ fn write_run(n: u64, times: u64, out: &mut [u8], at: usize) -> Result<usize, Wri
 {
     let at = write_bytes(b" ", out, at)?;
     if times <= 1 {
-        return write_number(n, b"", out, at);
+        write_number(n, b"", out, at)
+    } else {
+        let at = write_number(n, b"*", out, at)?;
+        write_number(times, b"", out, at)
     }
-    let at = write_number(n, b"*", out, at)?;
-    write_number(times, b"", out, at)
 }
 
 // Puts the numbers of a list, each behind a space; one that stands k times in a row, k above 1, once as n*k.
+// std has no `chunk_by` here: a run ends where the rest begins with another number.
 pub(crate) fn write_numbers(list: &[u64], out: &mut [u8], at: usize) -> Result<usize, WriteError>
     ensures { Puts (number_texts list.now) (output (Ok at) out.old) (output result out.new) }
 {

@@ -1,5 +1,5 @@
 // Bytes put into an output so that they stay on one line, whatever they are.
-ghost use Rattle.std.specs.Prelude.{◌≡◌, [], ◌∷◌, ◌++◌, ◌<◌};
+ghost use Rattle.std.specs.Prelude.{◌≡◌, [], ◌∷◌, ◌++◌, ◌<◌, leb, ◌&&◌};
 ghost use Rattle.lines.specs.Putting.{plain, output, Puts};
 ghost use Rattle.report.specs.Shown.{hex_digit, hex_escape, own_letter, escaped, shown_texts};
 
@@ -38,18 +38,23 @@ fn own_letter(b: u8) -> Option<u8>
     }
 }
 
+// Whether a byte can be printed.
+fn is_printed(b: u8) -> bool
+    ensures { result ≡ (leb 0x20 b && leb b 0x7E) }
+{
+    (0x20..=0x7E).contains(&b)
+}
+
 // A byte by its own escape where it has one, as itself where it can be printed, and by its digits where not. std's `escape_ascii` would escape
 // quotes as well, which stand in many of the examples.
 fn write_escaped(b: u8, out: &mut [u8], at: usize) -> Result<usize, WriteError>
     ensures { Puts (plain (escaped b) ∷ []) (output (Ok at) out.old) (output result out.new) }
 {
-    if let Some(letter) = own_letter(b) {
-        return write_bytes(&[b'\\', letter], out, at);
+    match own_letter(b) {
+        Some(letter) => write_bytes(&[b'\\', letter], out, at),
+        None if is_printed(b) => write_bytes(&[b], out, at),
+        None => write_hex(b, out, at),
     }
-    if b < 0x20 || 0x7E < b {
-        return write_hex(b, out, at);
-    }
-    write_bytes(&[b], out, at)
 }
 
 // Puts bytes in brackets, with line breaks, backslashes and what cannot be printed as escapes.

@@ -1,7 +1,12 @@
 -- Numbers of an input, byte by byte, and their bounds. Assumes nothing.
-use Rattle.std.specs.Prelude.{◌≡◌, ◌⊎◌, Bool, true, false, cond, List, [], ◌∷◌, ℕ, suc, ◌+◌, ◌*◌, ◌-◌, ◌≤◌, ◌<◌, min, leb, length, drop, get_or}
+use Rattle.std.specs.Prelude.{◌≡◌, ◌⊎◌, refl, Bool, not, position, true, false, cond, List, [], ◌∷◌, ℕ, suc, ◌+◌, ◌*◌, ◌-◌, ◌≤◌, ◌<◌, min, leb, length, drop, get_or}
 use Rattle.std.specs.Char.{is_ascii_digit}
+use Rattle.std.specs.List.{position_or_len}
+use Rattle.std.specs.Option.{unwrap_or}
 use Rattle.std.proofs.Common.{sym, ◌∙◌, ap, inl, inr, drop_of_length-le, drop-cons, leb-true}
+use Rattle.std.proofs.lemmas.Bool.{le-ltb, lt-ltb}
+use Rattle.std.proofs.lemmas.List.Recursion.{is_position_or_len}
+use Rattle.std.proofs.lemmas.List.Sums.{prefix_len-le-length}
 use Rattle.std.proofs.Math.Bool.{and-eq-true_iff}
 use Rattle.std.proofs.Math.Numerals.{add-one}
 use native.Mathlib.Omega.{arith}
@@ -25,18 +30,18 @@ ascii_digit b e is = sym is ∙ e
 
 -- ---- the bytes before a number
 
-module _ (input : List ℕ) (at : ℕ) where
-  pub gap-end : length input ≤ at → gap (drop at input) ≡ 0
-  unfolding gap
-  gap-end past = rw (drop_of_length-le input {i = at} past)
+gap-place : (bytes : List ℕ) → gap bytes ≡ position_or_len is_digit bytes
+unfolding gap
+gap-place = is_position_or_len gap is_digit refl (λ b bytes. ap (cond (is_digit b) 0) (omega arith))
 
-  pub gap_digit : at < length input → is_digit (get_or input at 0) ≡ true → gap (drop at input) ≡ 0
-  unfolding gap
-  gap_digit inside e = rw (drop-cons input at 0 inside, e)
-
-  pub gap_other : at < length input → is_digit (get_or input at 0) ≡ false → gap (drop at input) ≡ gap (drop (at + 1) input) + 1
-  unfolding gap
-  gap_other inside e = rw (drop-cons input at 0 inside, e, add-one at) (sym (add-one (gap (drop (suc at) input))))
+-- the first digit's place, or the length where there is none
+pub gap_first : (bytes : List ℕ) → unwrap_or (position is_digit bytes) (length bytes) ≡ gap bytes
+gap_first bytes = rw (gap-place bytes) (go (le-or-lt (length bytes) (position_or_len is_digit bytes)))
+  where
+    go : (length bytes ≤ position_or_len is_digit bytes) ⊎ (position_or_len is_digit bytes < length bytes)
+        → unwrap_or (position is_digit bytes) (length bytes) ≡ position_or_len is_digit bytes
+    go (inl l) = rw (le-ltb _ _ l) (omega (arith, prefix_len-le-length (λ b. not (is_digit b)) bytes))
+    go (inr l) = rw (lt-ltb _ _ l) refl
 
 -- ---- its digits one by one
 

@@ -33,6 +33,6 @@ pub returns-in_err-at-2 : goal.returns-in_err-at-2
 unfolding ascii
 returns-in_err-at-2 c = no_times _ _ c.from_residual-in_err-at-2.ensures.1 c.if-times-le1.false c.in_ok-at.ensures.puts c.in_err-at-2.ensures.puts
 
-pub returns : goal.returns
+pub returns-in_ok-at-2 : goal.returns-in_ok-at-2
 unfolding ascii
-returns c = run_more _ _ c.if-times-le1.false c.in_ok-at.ensures.puts c.in_ok-at-2.ensures.puts c.write_number-3.ensures.puts
+returns-in_ok-at-2 c = run_more _ _ c.if-times-le1.false c.in_ok-at.ensures.puts c.in_ok-at-2.ensures.puts c.write_number-else-times-le1-2.ensures.puts
