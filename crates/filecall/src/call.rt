@@ -105,10 +105,7 @@ pub(crate) fn aside(
     own_table.copy_from_slice(table);
     own_spare.copy_from_slice(spare);
     let (answer, n) = in_place(file, &mut own_table, &mut own_spare, &mut made)?;
-    let print = lines::write_bytes(&made[..n], output, 0);
-    if print.is_err() {
-        return Err(NO_SPACE);
-    }
+    lines::write_bytes(&made[..n], output, 0).map_err(|_| NO_SPACE)?;
     table.copy_from_slice(&own_table);
     spare.copy_from_slice(&own_spare);
     Ok((answer, n))

@@ -20,21 +20,32 @@ module _ {S A : Type 0} (steps : S → Option A → S → Type 0) where
   uncounted (x ∷ xs) s t y =
       let k = uncounted xs y.0 t y.2 in ((enumerate_source y.0, y.1.0, k.0), omega (arith, k.1, y.1.2))
 
-module _ {A B : Type 0} (ks : List A) (vs : List B) (xs : List (ℕ × (Bor A × Bor B))) (s t u : Enumerate (Zip (Iter A) (Iter B))) (r : Option (ℕ × (Bor A × Bor B)))
-    (first : iter_rest (zip_first (enumerate_source s)) ≡ ks) (second : iter_rest (zip_second (enumerate_source s)) ≡ vs) (start : enumerate_count s ≡ 0)
+module _ {A B : Type 0} (ks : List A) (vs : List B) (xs : List (ℕ × (Bor A × Bor B)))
+    (s t u : Enumerate (Zip (Iter A) (Iter B))) (r : Option (ℕ × (Bor A × Bor B)))
+    (first : iter_rest (zip_first (enumerate_source s)) ≡ ks)
+    (second : iter_rest (zip_second (enumerate_source s)) ≡ vs) (start : enumerate_count s ≡ 0)
     (y : Yields (enumerate_steps (zips fronts fronts)) s xs t) where
   pub counted_turn : (p : ℕ × (Bor A × Bor B)) → r ≡ Some p → enumerate_steps (zips fronts fronts) t r u
-      → (p.0 ≡ length xs) × (length xs < length ks) × (length xs < length vs) × ((d : A) → p.1.0.now ≡ get_or ks (length xs) d) × ((d : B) → p.1.1.now ≡ get_or vs (length xs) d)
+      → (p.0 ≡ length xs) × (length xs < length ks) × (length xs < length vs)
+      × ((d : A) → p.1.0.now ≡ get_or ks (length xs) d) × ((d : B) → p.1.1.now ≡ get_or vs (length xs) d)
   counted_turn p e h =
       let k = uncounted (zips fronts fronts) xs s t y in
       let m = subst (λ o. enumerate_steps (zips fronts fronts) t o u) e h in
       let n = length-map xs (λ (q : ℕ × (Bor A × Bor B)). q.1) in
-      let z = zip_turn ks vs (map (λ q. q.1) xs) (enumerate_source s) (enumerate_source t) (enumerate_source u) (Some p.1) first second k.0 p.1 refl m.0 in
-      (omega (arith, m.1, k.1, start), omega (arith, z.0, n), omega (arith, z.1, n), λ d. z.2 d ∙ ap (λ i. get_or ks i d) n, λ d. z.3 d ∙ ap (λ i. get_or vs i d) n)
+      let z =
+      zip_turn ks vs (map (λ q. q.1) xs) (enumerate_source s) (enumerate_source t) (enumerate_source u) (Some p.1) first second k.0 p.1 refl m.0
+      in (
+        omega (arith, m.1, k.1, start),
+        omega (arith, z.0, n),
+        omega (arith, z.1, n),
+        λ d. z.2 d ∙ ap (λ i. get_or ks i d) n,
+        λ d. z.3 d ∙ ap (λ i. get_or vs i d) n,
+      )
 
   pub counted_end : r ≡ None → enumerate_steps (zips fronts fronts) t r u → length xs ≡ min (length ks) (length vs)
   counted_end e h =
       let k = uncounted (zips fronts fronts) xs s t y in
       let m = subst (λ o. enumerate_steps (zips fronts fronts) t o u) e h in
       let n = length-map xs (λ (q : ℕ × (Bor A × Bor B)). q.1) in
-      omega (arith, n, zip_end ks vs (map (λ q. q.1) xs) (enumerate_source s) (enumerate_source t) (enumerate_source u) None first second k.0 refl m.0)
+      let z = zip_end ks vs (map (λ q. q.1) xs) (enumerate_source s) (enumerate_source t) (enumerate_source u) None first second k.0 refl m.0 in
+      omega (arith, n, z)

@@ -23,7 +23,9 @@ loop-i-preserved c =
     let usable = c.requires.usable in
     let few : e.count ≤ length e.figures = omega (arith, usable.count.most, usable.figures) in
     let turn =
-    counted_turn (take e.count e.figures) c.running-runs.result _ _ _ c.next.new.self _ (search rules) (search rules) (search rules) c.loop-i.yielded_by _ c.in-Some.is c.next.ensures.steps
+    counted_turn (take e.count e.figures) c.running-runs.result _ _ _ c.next.new.self _
+    (search rules) (search rules) (search rules)
+    c.loop-i.yielded_by _ c.in-Some.is c.next.ensures.steps
     in
     let i = length c.loop-i.yielded in
     let l : i < e.count = omega (arith, turn.1, length-take-le e.count e.figures few) in
@@ -40,6 +42,9 @@ returns c =
     let usable = c.requires.usable in
     let few : e.count ≤ length e.figures = omega (arith, usable.count.most, usable.figures) in
     let whole =
-    counted_end (take e.count e.figures) c.running-runs.result _ _ _ c.next.new.self _ (search rules) (search rules) (search rules) c.loop-i.yielded_by c.in-None.is c.next.ensures.steps
+    counted_end (take e.count e.figures) c.running-runs.result _ _ _ c.next.new.self _
+    (search rules) (search rules) (search rules)
+    c.loop-i.yielded_by c.in-None.is c.next.ensures.steps
     in
-    stored_new c.loop-i.invariant (omega (arith, whole, count-capacities_in e c.args.minutes, length-take-le e.count e.figures few)) ∙ over_zeros most_engines _
+    let all = count-capacities_in e c.args.minutes in
+    stored_new c.loop-i.invariant (omega (arith, whole, all, length-take-le e.count e.figures few)) ∙ over_zeros most_engines _

@@ -12,7 +12,9 @@ loop-p-init c = record { energies = stored_none _ _; limits = stored_none _ _ }
 pub loop-p-preserved : goal.loop-p-preserved
 loop-p-preserved c =
     let turn =
-    counted_turn c.args.energies.now c.args.limits.now _ _ _ c.next.new.self _ (search rules) (search rules) (search rules) c.loop-p.yielded_by _ c.in-Some.is c.next.ensures.steps
+    counted_turn c.args.energies.now c.args.limits.now _ _ _ c.next.new.self _
+    (search rules) (search rules) (search rules)
+    c.loop-p.yielded_by _ c.in-Some.is c.next.ensures.steps
     in
     rw (turn.0, turn.3 0, turn.4 0, length_push c.loop-p.yielded _)
     record {
@@ -22,7 +24,9 @@ loop-p-preserved c =
 
 whole : (c : goal.In-None) → length c.loop-p.yielded ≡ min (length c.args.energies.now) (length c.args.limits.now)
 whole c =
-    counted_end c.args.energies.now c.args.limits.now _ _ _ c.next.new.self _ (search rules) (search rules) (search rules) c.loop-p.yielded_by c.in-None.is c.next.ensures.steps
+    counted_end c.args.energies.now c.args.limits.now _ _ _ c.next.new.self _
+    (search rules) (search rules) (search rules)
+    c.loop-p.yielded_by c.in-None.is c.next.ensures.steps
 
 pub returns-clause-energies : goal.returns-clause-energies
 returns-clause-energies c = stored_new c.loop-p.invariant.energies (omega (arith, whole c)) ∙ over_zeros _ _

@@ -14,7 +14,9 @@ loop-i-init c = stored_none _ _
 pub loop-i-preserved : goal.loop-i-preserved
 loop-i-preserved c =
     let turn =
-    counted_turn c.args.watts.now c.args.fuels.now _ _ _ c.next.new.self _ (search rules) (search rules) (search rules) c.loop-i.yielded_by _ c.in-Some.is c.next.ensures.steps
+    counted_turn c.args.watts.now c.args.fuels.now _ _ _ c.next.new.self _
+    (search rules) (search rules) (search rules)
+    c.loop-i.yielded_by _ c.in-Some.is c.next.ensures.steps
     in
     let figures = figures_of c.args.watts.now c.args.fuels.now in
     let count = max (length c.args.watts.now) (length c.args.fuels.now) in
@@ -27,6 +29,8 @@ returns c =
     let figures = figures_of c.args.watts.now c.args.fuels.now in
     let count = max (length c.args.watts.now) (length c.args.fuels.now) in
     let whole =
-    counted_end c.args.watts.now c.args.fuels.now _ _ _ c.next.new.self _ (search rules) (search rules) (search rules) c.loop-i.yielded_by c.in-None.is c.next.ensures.steps
+    counted_end c.args.watts.now c.args.fuels.now _ _ _ c.next.new.self _
+    (search rules) (search rules) (search rules)
+    c.loop-i.yielded_by c.in-None.is c.next.ensures.steps
     in
     stored_new c.loop-i.invariant (omega (arith, whole, length-listed count figures)) ∙ over_alike no_figures _ _
