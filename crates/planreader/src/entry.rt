@@ -28,8 +28,8 @@ impl<'a> Entry<'a> {
     ghost use Rattle.planreader.specs.Parts.{CutAt};
     ghost use Rattle.planreader.specs.Fields.{NameFor};
 
-    // Cuts the record that begins at a place of a file; behind it stands where the next one begins. It is refused at the first field that breaks
-    // the grammar, as what follows cannot mend it, and, where it has not four fields, at its end.
+    // Cuts the record that begins at a place of a file; behind it stands where the next one begins. 2 at the first field that breaks the grammar,
+    // as what follows cannot mend it; 3 at the record's end, where its fields are not four.
     pub(crate) fn cut(file: &'a [u8], from: usize) -> Result<(Entry<'a>, usize), Fault>
         requires { from ≤ length file.now }
         ensures { CutAt file.now from result }
