@@ -1,17 +1,17 @@
 -- What a search, the bisection and a plan's answer are as the code returns them, with the table that each leaves.
 -- Assumes nothing.
-use Rattle.std.specs.Prelude.{◌≡◌, List, ℕ, ◌*◌, length}
+use Rattle.std.specs.Prelude.{◌≡◌, List, ℕ}
 use Rattle.planning.specs.declared.Answer.{Answer}
 use Rattle.planning.specs.declared.Outcome.TheVariants.{Found}
-use Rattle.planning.specs.declared.Plan.{Plan as ByValue}
 use Rattle.planning.specs.Modes.{Planned, answer_of}
 use Rattle.planning.specs.Search.{Result, found}
 use Rattle.search.specs.declared.Ended.{Ended}
+use Rattle.allocation.specs.declared.accepted.Accepted.{Accepted}
 use Rattle.search.specs.Promises.{ended_of, written}
 
--- a list as long as the plan's piece table
-abbrev pub IsTableOf : ByValue → List ℕ → Type 0
-IsTableOf plan table = length table ≡ plan.deliveries.count * plan.engines.count
+-- the plan is the same, and so is the list that is lent for its table
+abbrev pub Kept : (before after : Accepted) → Type 0
+Kept before after = (after.plan ≡ before.plan) × (after.table.ghost_name ≡ before.table.ghost_name)
 
 -- a search ends in that result; `left` is what the lent table then holds
 pub record Ends (result : Result) (lent : List ℕ) (r : Ended) (left : List ℕ) : Type 0 where

@@ -1,6 +1,6 @@
 // The capacities of engines for some minutes. Nothing else in this crate looks at an engine's figures.
 ghost use Rattle.std.specs.Prelude.{◌≡◌, ◌*◌, ◌/◌, ◌≤◌, ◌<◌, min, length};
-ghost use Rattle.planning.specs.Bounds.{most_engines, most_quiet, most_minutes};
+ghost use Rattle.planning.specs.Bounds.{most_engines, most_quiet};
 ghost use Rattle.planning.specs.ByValue.{UsableEngines, quiet_in, engines_in};
 ghost use Rattle.planning.specs.Capacity.{each_capacity};
 ghost use Rattle.planning.proofs.Laws.Numbers.{QuietKept};
@@ -20,7 +20,7 @@ fn capacity(figures: EngineFigures, running: u16) -> u32
 
 // How many of the minutes lie in a span.
 #[tactic(auto, unfolding(planning::proofs::Laws::Quiet::taken))]
-fn taken(span: QuietSpan, minutes: u16) -> u16
+fn taken(span: QuietSpan<u16>, minutes: u16) -> u16
     requires { span.from < span.to }
     ensures { result ≡ taken_of (record { from = span.from; to = span.to }) minutes }
 {
@@ -43,15 +43,15 @@ fn running(quiet: &Spans, minutes: u16) -> [u16; MOST_ENGINES]
 }
 
 // The capacities of the engines, and zeros behind them.
-pub(crate) fn capacities(engines: &Engines, minutes: u64) -> [u32; MOST_ENGINES]
-    requires usable { UsableEngines engines.now }
-    requires minutes { minutes ≤ most_minutes }
+pub(crate) fn capacities(engines: &Engines, minutes: u16) -> [u32; MOST_ENGINES]
+    requires { UsableEngines engines.now }
     ensures { result ≡ padded most_engines (each_capacity (engines_in engines.now) minutes) }
 {
-    let runs = running(&engines.quiet, minutes as u16);
+    let runs = running(&engines.quiet, minutes);
     let mut out = [0; MOST_ENGINES];
     let figures = &engines.figures[..engines.count];
-    for (i, (figures, running)) in figures.iter().zip(runs.iter()).enumerate() {
+    // By place: tried as `out.iter_mut().zip(..)`, and of what is written so nothing is known behind the loop.
+    for (i, (figures, running)) in figures.iter().zip(&runs).enumerate() {
         out[i] = capacity(*figures, *running);
     }
     out

@@ -17,10 +17,10 @@ pub fn allocate(lists: PlanLists, table: &mut [u64], spare: &mut [u64]) -> Resul
     ensures { Promised (call_of lists.entry table.old spare.old) result table.new spare.new }
 {
     let plan = checks::check(lists, table.len(), spare.len())?;
-    let accepted = Accepted { plan };
-    let answer = accepted.answer(table);
+    let mut accepted = Accepted { plan, table };
+    let answer = accepted.answer();
     if answer.outcome == Outcome::Found {
-        accepted.write_spares(answer.minutes, table, spare);
+        accepted.write_spares(answer.minutes as u16, spare);
     }
     Ok(answer)
 }

@@ -1,4 +1,5 @@
-// The plan by value: the lists of a call as what each engine, delivery and quiet span has.
+// The plan by value: the lists of a call as what each engine, delivery and quiet span has. That each list fits is asked of three functions, called
+// once each: a type that carried it would be made for that call alone.
 ghost use Rattle.std.specs.Prelude.{◌≡◌, [], ◌*◌, ◌%◌, length};
 ghost use Rattle.planning.specs.Bounds.{most_engines, most_deliveries, most_quiet};
 ghost use Rattle.planning.specs.ByValue.{Usable, no_figures, figures_by, spans_by, by_value};
@@ -40,6 +41,7 @@ fn figures_of(watts: &[u64], fuels: &[u64]) -> [EngineFigures; MOST_ENGINES]
     ensures { result ≡ filled no_figures most_engines (figures_by watts.now fuels.now) }
 {
     let mut figures = [EngineFigures { watts: 0, fuel: 0 }; MOST_ENGINES];
+    // By place: tried as `figures.iter_mut().zip(..)`, and of what is written so nothing is known behind the loop.
     for (i, (watts, fuel)) in watts.iter().zip(fuels).enumerate() {
         figures[i] = EngineFigures {
             watts: *watts as u32,
@@ -60,6 +62,7 @@ fn deliveries_of(energies: &[u64], limits: &[u64]) -> Deliveries
 {
     let mut energy = [0; MOST_DELIVERIES];
     let mut limit = [0; MOST_DELIVERIES];
+    // By place, as the figures are stored.
     for (p, (wh, most)) in energies.iter().zip(limits).enumerate() {
         energy[p] = *wh as u32;
         limit[p] = *most as u8;
@@ -83,6 +86,7 @@ fn spans_of(quiet: &[u64]) -> Spans
     };
     let mut spans = [none; MOST_QUIET];
     let (threes, _) = quiet.as_chunks::<3>();
+    // By place, as the figures are stored.
     for (k, [engine, from, to]) in threes.iter().enumerate() {
         spans[k] = QuietSpan {
             engine: *engine as u16,

@@ -1,16 +1,18 @@
 // The refusals on numbers, in the documents' order.
-ghost use Rattle.std.specs.Prelude.{◌≡◌, ◌<◌, not, length, position, IfSome};
+ghost use Rattle.std.specs.Prelude.{◌≡◌, ◌<◌, not, false, length, position, IfSome};
 ghost use Rattle.std.specs.List.{zip};
+ghost use Rattle.std.specs.Range.{range_inclusive_exhausted};
 ghost use Rattle.planning.specs.Numbers.{refusal_of};
 ghost use Rattle.planning.specs.Refusals.{verdict_of};
 ghost use Rattle.checks.specs.Checked.{call_lent};
-ghost use Rattle.checks.specs.Parts.{counts_refusal, values_refusal, engine_sound, delivery_sound};
+ghost use Rattle.checks.specs.Parts.{counts_refusal, values_refusal, sound};
 
-use crate::quiet::spans;
+use crate::quiet::check_spans;
 use planning::{
     Fault, MOST_DELIVERIES, MOST_ENERGY, MOST_ENGINES, MOST_FUEL, MOST_LIMIT, MOST_MINUTES,
     MOST_TRIES, MOST_WATTS, PlanLists, Refusal,
 };
+use std::ops::RangeInclusive;
 
 // 3, 8, 7, 9, then 6, and last the quiet spans.
 pub(crate) fn refusal(lists: PlanLists, table: usize, spare: usize) -> Result<(), Refusal>
@@ -20,11 +22,11 @@ pub(crate) fn refusal(lists: PlanLists, table: usize, spare: usize) -> Result<()
         || lists.energies.len() != lists.limits.len()
         || lists.quiet.len() % 3 != 0
     {
-        return Err(refused(Fault::Fields, 0));
+        return Err(Fault::Fields.at(0));
     }
     counts(lists.watts.len(), lists.energies.len(), table, spare)?;
     values(lists)?;
-    spans(lists.quiet, lists.watts.len() as u64)
+    check_spans(lists.quiet, lists.watts.len() as u64)
 }
 
 // 8, 7 and 9, on lengths alone.
@@ -32,63 +34,56 @@ fn counts(engines: usize, deliveries: usize, table: usize, spare: usize) -> Resu
     ensures { result ≡ verdict_of (counts_refusal engines deliveries table spare) }
 {
     if engines == 0 {
-        return Err(refused(Fault::NoEngine, 0));
+        return Err(Fault::NoEngine.at(0));
     }
     if MOST_ENGINES < engines || MOST_DELIVERIES < deliveries {
-        return Err(refused(Fault::Count, 0));
+        return Err(Fault::Count.at(0));
     }
     if table != deliveries * engines || spare != engines {
-        return Err(refused(Fault::Space, 0));
+        return Err(Fault::Space.at(0));
     }
     Ok(())
 }
 
 // 6 over minutes, allowance, engines, deliveries: the first of them with a figure out of its range.
 fn values(lists: PlanLists) -> Result<(), Refusal>
-    requires engines { length lists.watts.now ≡ length lists.fuels.now }
-    requires deliveries { length lists.energies.now ≡ length lists.limits.now }
     ensures { result ≡ verdict_of (values_refusal (call_lent lists.entry 0 0)) }
 {
-    if !(1..=MOST_MINUTES).contains(&lists.minutes)
-        || !(0..=MOST_TRIES).contains(&lists.allowance)
-    {
-        return Err(refused(Fault::Value, 1));
+    if !(1..=MOST_MINUTES).contains(&lists.minutes) || MOST_TRIES < lists.allowance {
+        return Err(Fault::Value.at(1));
     }
-    if let Some(engine) = engine_outside(lists.watts, lists.fuels) {
-        return Err(refused(Fault::Value, 2 + engine as u64));
+    if let Some(engine) = first_outside(lists.watts, lists.fuels, 0..=MOST_WATTS, 0..=MOST_FUEL) {
+        return Err(Fault::Value.at(2 + engine as u64));
     }
-    if let Some(delivery) = delivery_outside(lists.energies, lists.limits) {
-        return Err(refused(Fault::Value, 2 + (lists.watts.len() + delivery) as u64));
+    if let Some(delivery) = first_outside(
+        lists.energies,
+        lists.limits,
+        1..=MOST_ENERGY,
+        1..=MOST_LIMIT,
+    ) {
+        return Err(Fault::Value.at(2 + (lists.watts.len() + delivery) as u64));
     }
     Ok(())
 }
 
-// The first engine with a figure out of its range.
+// The first place at which one of two lists has a figure out of its range.
 #[tactic(auto, unfolding(planning::specs::Numbers::within))]
-fn engine_outside(watts: &[u64], fuels: &[u64]) -> Option<usize>
-    ensures inside { IfSome result (λ i. i < length watts.now) }
-    ensures first { result ≡ position (λ e. not (engine_sound e)) (zip watts.now fuels.now) }
+fn first_outside(
+    firsts: &[u64],
+    seconds: &[u64],
+    first: RangeInclusive<u64>,
+    second: RangeInclusive<u64>,
+) -> Option<usize>
+    requires first { range_inclusive_exhausted first ≡ false }
+    requires second { range_inclusive_exhausted second ≡ false }
+    ensures inside { IfSome result (λ i. i < length firsts.now) }
+    ensures first { result ≡ position (λ pair. not (sound first second pair)) (zip firsts.now seconds.now) }
 {
-    watts.iter().zip(fuels).position(|(w, f)| !((0..=MOST_WATTS).contains(w)
-        && (0..=MOST_FUEL).contains(f)))
-}
-
-// The first delivery with a figure out of its range.
-#[tactic(auto, unfolding(planning::specs::Numbers::within))]
-fn delivery_outside(energies: &[u64], limits: &[u64]) -> Option<usize>
-    ensures inside { IfSome result (λ p. p < length energies.now) }
-    ensures first { result ≡ position (λ d. not (delivery_sound d)) (zip energies.now limits.now) }
-{
-    energies.iter().zip(limits).position(
-        |(energy, limit)| -> bool
-            ensures { result ≡ not (delivery_sound (energy.entry.now, limit.entry.now)) }
-        { !((1..=MOST_ENERGY).contains(energy) && (1..=MOST_LIMIT).contains(limit)) },
+    firsts.iter().zip(seconds).position(
+        |(a, b)| -> bool
+            requires first { range_inclusive_exhausted first ≡ false }
+            requires second { range_inclusive_exhausted second ≡ false }
+            ensures { result ≡ not (sound first second (a.entry.now, b.entry.now)) }
+        { !(first.contains(a) && second.contains(b)) },
     )
-}
-
-// A refusal at that place.
-pub(crate) fn refused(fault: Fault, place: u64) -> Refusal
-    ensures { result ≡ record { fault = fault; place = place } }
-{
-    Refusal { fault, place }
 }

@@ -11,13 +11,13 @@ pub fn spare_lookup(spare: &[u64], amount: u64) -> Result<Option<usize>, Refusal
     ensures { LookedUp spare.now amount result }
 {
     if spare.is_empty() {
-        return Err(refused(Fault::NoEngine));
+        return Err(Fault::NoEngine.at(0));
     }
     if MOST_ENGINES < spare.len() {
-        return Err(refused(Fault::Count));
+        return Err(Fault::Count.at(0));
     }
-    if amount == 0 || MOST_ENERGY < amount {
-        return Err(refused(Fault::Value));
+    if !(1..=MOST_ENERGY).contains(&amount) {
+        return Err(Fault::Value.at(0));
     }
     Ok(find(spare, amount))
 }
@@ -28,11 +28,4 @@ fn find(spare: &[u64], amount: u64) -> Option<usize>
     ensures { Names spare.now amount (Ok result) }
 {
     spare.iter().position(|s| amount <= *s)
-}
-
-// A refusal, place 0.
-fn refused(fault: Fault) -> Refusal
-    ensures { result ≡ record { fault = fault; place = 0 } }
-{
-    Refusal { fault, place: 0 }
 }

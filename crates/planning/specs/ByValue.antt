@@ -17,7 +17,7 @@ use Rattle.planning.specs.Tables.{at, listed, filled, padded}
 -- ---- the plan that it stands for
 
 -- what stands behind those that are counted
-abbrev pub no_span : QuietSpan
+abbrev pub no_span : QuietSpan ℕ
 no_span = record { engine = 0; from = 0; to = 0 }
 
 abbrev pub no_figures : EngineFigures
@@ -82,7 +82,7 @@ pub record Usable (p : ByValue) : Type 0 where
 
 -- ---- the numbers of a call by value: what its lists have at each place, zeros behind them
 
-abbrev pub span_by : Quiet → QuietSpan
+abbrev pub span_by : Quiet → QuietSpan ℕ
 span_by q = record { engine = q.engine; from = q.span.from; to = q.span.to }
 
 unfoldable pub spans_by : List Quiet → Spans

@@ -58,6 +58,10 @@ quiet_of (engine ∷ []) = []
 quiet_of (engine ∷ from ∷ []) = []
 quiet_of (engine ∷ from ∷ to ∷ more) = record { engine = engine; span = record { from = from; to = to } } ∷ quiet_of more
 
+-- the span of three of them
+abbrev pub quiet_three : List ℕ → Quiet
+quiet_three three = record { engine = at three 0; span = record { from = at three 1; to = at three 2 } }
+
 -- and such a list of spans
 unfoldable pub triples_of : List Quiet → List ℕ
 triples_of [] = []

@@ -1,12 +1,14 @@
-// The types that the planner's answers and contracts speak of, the bounds, a fault's number, numbers copied, and the test of a quiet span. Their
-// meaning is given in specs/.
+// The types that the planner's answers and contracts speak of, the bounds, a fault's number and its refusal at a place, and the test of a quiet
+// span. Their meaning is given in specs/.
 #![tactic(auto)]
 
-ghost use Rattle.std.specs.Prelude.{◌≡◌, length, take};
-ghost use Rattle.planning.specs.Numbers.{quiet_of};
+ghost use Rattle.std.specs.Prelude.{◌≡◌, ◌==◌, nat_lt, ◌+◌, ◌&&◌, map, filter};
+ghost use Rattle.std.specs.List.{list_all, enumerate_from};
+ghost use Rattle.planning.specs.Tables.{at};
+ghost use Rattle.planning.specs.Bounds.{most_spans};
+ghost use Rattle.planning.specs.Numbers.{quiet_three};
 ghost use Rattle.planning.specs.Quiet.{spans_of, clear, fits};
 ghost use Rattle.planning.specs.Refusals.{fault_number};
-ghost use Rattle.planning.specs.Tables.{over_front};
 
 // The counts and ranges of documents 01 and 02 under the names that specs/Bounds gives them.
 pub const MOST_ENGINES: usize = 12;
@@ -77,20 +79,21 @@ pub struct Refusal {
     pub place: u64,
 }
 
-// A quiet span by value: the number of its engine, counted from 1, FROM and TO.
+// A quiet span: the number of its engine, counted from 1, FROM and TO; in 64 bits as it is lent, in 16 where it stands in a plan by value.
 #[derive(Clone, Copy, Debug, PartialEq, Eq)]
-pub struct QuietSpan {
-    pub engine: u16,
-    pub from: u16,
-    pub to: u16,
+pub struct QuietSpan<T> {
+    pub engine: T,
+    pub from: T,
+    pub to: T,
 }
 
 // The quiet spans of a plan's engines by value, in the order given: those counted stand at the front, zeros behind them. An array with a count,
-// as in the other parts of a plan, since a library takes nothing from the heap.
+// as in the other parts of a plan, since a library takes nothing from the heap; no generic one of both, since engines have more beside theirs, and
+// deliveries two arrays to one count.
 #[derive(Clone, Copy)]
 pub struct Spans {
     pub count: usize,
-    pub spans: [QuietSpan; MOST_QUIET],
+    pub spans: [QuietSpan<u16>; MOST_QUIET],
 }
 
 // What an engine has of its own.
@@ -127,7 +130,8 @@ pub struct Plan {
     pub deliveries: Deliveries,
 }
 
-// A plan by its lists, as the allocation on numbers takes it: one number for each engine or delivery, and of quiet spans three numbers each.
+// A plan by its lists, as the allocation on numbers takes it: one number for each engine or delivery, and of quiet spans three numbers each. They
+// stay lists side by side, as the C interface lends them.
 #[derive(Clone, Copy)]
 pub struct PlanLists<'a> {
     pub mode: Mode,
@@ -140,7 +144,17 @@ pub struct PlanLists<'a> {
     pub quiet: &'a [u64],
 }
 
-// The documents' number of a fault.
+impl Fault {
+    // A refusal by that fault, at a place.
+    pub fn at(self, place: u64) -> Refusal
+        ensures { result ≡ record { fault = self; place = place } }
+    {
+        Refusal { fault: self, place }
+    }
+}
+
+// The documents' number of a fault. By a match: with numbers on the variants two faults of one number, a wrong answer that a fact must refuse, are
+// refused by the compiler before any proof.
 impl From<Fault> for u64 {
     ghost from_gives = { λ fault number. number ≡ fault_number fault };
 
@@ -162,38 +176,33 @@ impl From<Fault> for u64 {
     }
 }
 
-// Numbers copied to the front of a list, as many as it has room for.
-pub fn copy(numbers: &[u64], to: &mut [u64])
-    ensures { to.new ≡ over_front (take (length to.old) numbers.now) to.old }
-{
-    let n = to.len().min(numbers.len());
-    to[..n].copy_from_slice(&numbers[..n]);
+impl QuietSpan<u64> {
+    // Whether one of two spans ends before the other begins.
+    #[tactic(auto, unfolding(crate::specs::Quiet::clear))]
+    fn is_clear_of(self, from: u64, to: u64) -> bool
+        ensures { result ≡ clear (record { from = self.from; to = self.to }) (record { from = from; to = to }) }
+    {
+        self.to <= from || to <= self.from
+    }
+
+    // Whether it is clear of those of its own engine, and these are fewer than the most. Counted as they are looked at: tried by `count` in a
+    // pass of its own, which cost 25 %.
+    fn fits_behind(self, threes: &[[u64; 3]]) -> bool
+        ensures { result ≡ list_all (λ kth. nat_lt (kth.0 + 1) most_spans && clear (record { from = self.from; to = self.to }) (quiet_three kth.1).span)
+            (enumerate_from 0 (filter (λ three. at three 0 == self.engine) threes.now)) }
+    {
+        threes
+            .iter()
+            .filter(|[engine, ..]| *engine == self.engine)
+            .enumerate()
+            .all(|(k, [_, from, to])| k + 1 < MOST_SPANS && self.is_clear_of(*from, *to))
+    }
 }
 
-// Whether one of two spans ends before the other begins.
-#[tactic(auto, unfolding(crate::specs::Quiet::clear))]
-fn apart(from: u64, to: u64, other_from: u64, other_to: u64) -> bool
-    ensures { result ≡ clear (record { from = from; to = to }) (record { from = other_from; to = other_to }) }
+// Whether a span may stand behind an engine's earlier ones, among those given by three numbers each: 11, as a test.
+#[tactic(auto, using(crate::proofs::Laws::Triples::fits_threes))]
+pub fn span_fits(earlier: &[[u64; 3]], span: QuietSpan<u64>) -> bool
+    ensures { result ≡ fits (record { from = span.from; to = span.to }) (spans_of span.engine (map quiet_three earlier.now)) }
 {
-    to <= other_from || other_to <= from
-}
-
-// Whether a span may stand behind an engine's earlier ones, among those of a list of three numbers each: 11, as a test.
-pub fn span_fits(quiet: &[u64], engine: u64, from: u64, to: u64) -> bool
-    ensures { result ≡ fits (record { from = from; to = to }) (spans_of engine (quiet_of quiet.now)) }
-{
-    if to <= from {
-        return false;
-    }
-    let (spans, _) = quiet.as_chunks::<3>();
-    let mut earlier = 0;
-    for [other, other_from, other_to] in spans {
-        if *other == engine {
-            if !apart(from, to, *other_from, *other_to) {
-                return false;
-            }
-            earlier += 1;
-        }
-    }
-    earlier < MOST_SPANS
+    span.from < span.to && span.fits_behind(earlier)
 }

@@ -1,14 +1,12 @@
 -- By the checks, and where the call is accepted by the answer. That what is returned and left then keeps every promise is planning's
 -- Laws/Promised.
-use Rattle.std.proofs.Common.{◌≡◌, ◌≢◌, sym, ◌∙◌, rules}
+use Rattle.std.proofs.Common.{◌≡◌, ◌≢◌, sym, ◌∙◌, rules, arith}
 use Rattle.std.proofs.lemmas.Result.{err_from_is_err_and}
 use Rattle.planning.specs.declared.Outcome.TheVariants.{Found}
-use Rattle.planning.specs.Numbers.{call_of}
 use Rattle.planning.proofs.Laws.Lent.{refused-keeps}
 use Rattle.planning.proofs.Laws.Promised.{promised}
-use Rattle.checks.specs.Laws.Checked.{refused-call, accepted-call, accepted-plan, accepted-usable}
-use Rattle.allocation.specs.Laws.Calls.{cells-lent, spares-lent, answered-result, answered-table, answered-most}
-use Rattle.allocation.specs.Laws.Calls.{answered-serves, answered-spare, kept-unless-found}
+use Rattle.checks.specs.Laws.Checked.{refused-call, accepted-usable}
+use Rattle.allocation.specs.Laws.Calls.{cells-lent, spares-lent, answered-most, answered-serves, promised-found, promised-other}
 use Rattle.allocation.proofs.allocate.Goals as goal
 
 pub returns-in_err-plan : goal.returns-in_err-plan
@@ -21,53 +19,43 @@ returns-in_err-plan c =
 pub invariant_of-accepted : goal.invariant_of-accepted
 invariant_of-accepted c =
     let a = c.args in
-    record { usable = accepted-usable a.lists a.table.now a.spare.now (sym c.in_ok-plan.was ∙ c.check.ensures) }
+    let came = sym c.in_ok-plan.was ∙ c.check.ensures in
+    record {
+      usable = accepted-usable a.lists a.table.now a.spare.now came;
+      cells = cells-lent a.lists a.table.now a.spare.now came;
+    }
 
-pub answer-answer-requires : goal.answer-answer-requires
-answer-answer-requires c =
+pub overflow_cast-answer : goal.overflow_cast-answer
+overflow_cast-answer c =
     let a = c.args in
     let came = sym c.in_ok-plan.was ∙ c.check.ensures in
-    let ok = accepted-call a.lists a.table.now a.spare.now came in
-    let is = accepted-plan a.lists a.table.now a.spare.now came in
-    cells-lent (call_of a.lists a.table.now a.spare.now) ok _ is
+    omega (arith, answered-most a.lists a.table.now a.spare.now came c.answer-answer.ensures.answers)
 
 pub write_spares-requires : goal.write_spares-requires
 write_spares-requires c =
     let a = c.args in
     let came = sym c.in_ok-plan.was ∙ c.check.ensures in
-    let ok = accepted-call a.lists a.table.now a.spare.now came in
-    let is = accepted-plan a.lists a.table.now a.spare.now came in
-    let call = call_of a.lists a.table.now a.spare.now in
     let found : c.answer-answer.result.outcome ≡ Found = search rules in
-    record {
-      minutes = answered-most call ok _ is c.answer-answer.ensures;
-      table = c.answer-answer.auto.table ∙ cells-lent call ok _ is;
-      serves = answered-serves call ok _ is c.answer-answer.ensures found;
-      spare = spares-lent call ok _ is;
-    }
+    rw c.answer-answer.ensures.kept.0
+    (record {
+      serves = answered-serves a.lists a.table.now a.spare.now came c.answer-answer.ensures.answers found;
+      spare = spares-lent a.lists a.table.now a.spare.now came;
+    })
 
+-- what the list lent for the table holds is what the plan's table does, which is the same list
 pub returns-then-eq : goal.returns-then-eq
 returns-then-eq c =
     let a = c.args in
     let came = sym c.in_ok-plan.was ∙ c.check.ensures in
-    let ok = accepted-call a.lists a.table.now a.spare.now came in
-    let is = accepted-plan a.lists a.table.now a.spare.now came in
-    let call = call_of a.lists a.table.now a.spare.now in
     let found : c.answer-answer.result.outcome ≡ Found = search rules in
-    promised _
-    (answered-result call ok _ is c.answer-answer.ensures)
-    (answered-table call ok _ is c.answer-answer.ensures)
-    (answered-spare call ok _ is c.answer-answer.ensures found c.write_spares.ensures)
+    let same = sym c.answer-answer.ensures.kept.1 in
+    let spares = rw c.answer-answer.ensures.kept.0 at c.write_spares.ensures in
+    promised-found a.lists a.table.now a.spare.now came c.answer-answer.ensures.answers found (search rules) spares
 
 pub returns-else-eq : goal.returns-else-eq
 returns-else-eq c =
     let a = c.args in
     let came = sym c.in_ok-plan.was ∙ c.check.ensures in
-    let ok = accepted-call a.lists a.table.now a.spare.now came in
-    let is = accepted-plan a.lists a.table.now a.spare.now came in
-    let call = call_of a.lists a.table.now a.spare.now in
     let other : c.answer-answer.result.outcome ≢ Found = search rules in
-    promised _
-    (answered-result call ok _ is c.answer-answer.ensures)
-    (answered-table call ok _ is c.answer-answer.ensures)
-    (kept-unless-found call ok _ is c.answer-answer.ensures other)
+    let same = sym c.answer-answer.ensures.kept.1 in
+    promised-other a.lists a.table.now a.spare.now came c.answer-answer.ensures.answers (search rules) other

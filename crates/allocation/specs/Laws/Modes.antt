@@ -107,8 +107,8 @@ module _ (plan : Plan) where
 
 -- the bisection's answer with the table that it found, or the lent one kept
 module _ {a : Planned} {r : Answer} {left : List ℕ} (answers : AnswersFound a r left) where
-  pub found_copied : r.outcome ≡ Found → (lent : List ℕ) → Answers a lent r left
-  found_copied e lent = record { answer = answers.answer; table = answers.table e lent }
+  pub found_copied : r.outcome ≡ Found → (lent : List ℕ) {table : List ℕ} → table ≡ left → Answers a lent r table
+  found_copied e lent copied = record { answer = answers.answer; table = copied ∙ answers.table e lent }
 
   pub other-kept : r.outcome ≢ Found → (lent : List ℕ) → Answers a lent r lent
   unfolding answer_of

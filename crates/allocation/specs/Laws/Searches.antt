@@ -2,11 +2,11 @@
 -- Assumes nothing.
 use Rattle.std.specs.Prelude.{◌≡◌, List, ℕ, ◌*◌, ◌≤◌, ◌<◌, length, take, Result as Returned, Ok, IsOk}
 use Rattle.std.proofs.Math.Path.{sym}
-use Rattle.std.proofs.Common.{ap, ◌∙◌, length-take-le, get_or-take, mul-le-mul, arith}
+use Rattle.std.proofs.Common.{ap, ◌∙◌, length-take-le, get_or-take, arith}
 use Rattle.planning.specs.declared.Deliveries.{Deliveries}
 use Rattle.planning.specs.declared.Engines.{Engines}
 use Rattle.planning.specs.declared.Plan.{Plan as ByValue}
-use Rattle.planning.specs.Bounds.{most_engines, most_cells}
+use Rattle.planning.specs.Bounds.{most_engines}
 use Rattle.planning.specs.ByValue.{delivery_in, engines_in, plan_in, UsableEngines, UsableDeliveries, Usable}
 use Rattle.planning.specs.Capacity.{each_capacity, capacities}
 use Rattle.planning.proofs.Laws.ByValue.{count-capacities_in, most-capacity_in, delivery_in_range, energies_in, limits_in}
@@ -16,12 +16,9 @@ use Rattle.planning.specs.Plan.{Within}
 use Rattle.planning.specs.Tables.{at, padded}
 use Rattle.search.specs.declared.Ended.{Ended}
 use Rattle.search.specs.declared.OutOfRange.{OutOfRange}
+use Rattle.search.specs.declared.Task.{Task}
 use Rattle.search.specs.Promises.{AllWithin, InSearchRange, Answers as SearchAnswers}
 use Rattle.allocation.specs.Ends.{Ends}
-
--- a table has at most as many cells as the largest plan's
-pub cells-most : {p : ByValue} {cells : ℕ} → Usable p → cells ≡ p.deliveries.count * p.engines.count → cells ≤ most_cells
-cells-most u e = omega (arith, e, mul-le-mul u.deliveries.count.most u.engines.count.most)
 
 -- numbers in range at the front of a list
 front-within : {low high : ℕ} (n : ℕ) (xs : List ℕ) → n ≤ length xs → ((i : ℕ) → i < n → Within low high (at xs i)) → AllWithin low high (take n xs)
@@ -66,44 +63,53 @@ module _ {e : Engines} (u : UsableEngines e) (T : ℕ) {amounts : List ℕ} (are
       ∙ ap (λ (n : ℕ). take n (padded most_engines all)) (sym (count-capacities_in e T))
       ∙ take-padded most_engines all
 
+-- the task of a plan: the front of each column, and the allowance
+pub record IsTaskOf (p : ByValue) (amounts : List ℕ) (task : Task) : Type 0 where
+  pub capacities : task.capacities.now ≡ take p.engines.count amounts
+  pub energies : task.energies.now ≡ take p.deliveries.count p.deliveries.energy
+  pub limits : task.limits.now ≡ take p.deliveries.count p.deliveries.limit
+  pub allowance : task.allowance ≡ p.allowance
+
 module _ {p : ByValue} (u : Usable p) (T : ℕ) {amounts : List ℕ} (are : amounts ≡ padded most_engines (each_capacity (engines_in p.engines) T))
-    (lent : List ℕ) (cells : length lent ≡ p.deliveries.count * p.engines.count) where
-  -- what is lent is in range
-  lent_in_range : InSearchRange (take p.engines.count amounts) (take p.deliveries.count p.deliveries.energy)
-      (take p.deliveries.count p.deliveries.limit) p.allowance (length lent)
+    (lent : List ℕ) (cells : length lent ≡ p.deliveries.count * p.engines.count) {task : Task} (is : IsTaskOf p amounts task) where
+  -- it is in range
+  task_in_range : InSearchRange task (length lent)
   unfolding delivery_in
-  lent_in_range =
-      let engines = lent-capacities u.engines T are in
-      let energies = lent-energies u.deliveries in
+  task_in_range =
+      let engines = ap length is.capacities ∙ lent-capacities u.engines T are in
+      let energies = ap length is.energies ∙ lent-energies u.deliveries in
       record {
         counts =
             record {
               engine_count = omega (arith, engines, u.engines.count.most);
               delivery_count = omega (arith, energies, u.deliveries.count.most);
-              paired = lent-limits u.deliveries ∙ sym energies;
+              paired = ap length is.limits ∙ lent-limits u.deliveries ∙ sym energies;
               table = rw (engines, energies) cells;
-              tries = u.allowance.most;
+              tries = omega (arith, is.allowance, u.allowance.most);
             };
         capacities =
-            front-within p.engines.count amounts (few-capacities u.engines T are)
-            (λ i l. record { least = omega arith; most = omega (arith, amount-at u.engines T are i, most-capacity_in u.engines T i l) });
+            rw is.capacities
+            (front-within p.engines.count amounts (few-capacities u.engines T are)
+            (λ i l. record { least = omega arith; most = omega (arith, amount-at u.engines T are i, most-capacity_in u.engines T i l) }));
         energies =
-            front-within p.deliveries.count p.deliveries.energy (few-energies u.deliveries)
-            (λ q l. (delivery_in_range u.deliveries q l).energy);
+            rw is.energies
+            (front-within p.deliveries.count p.deliveries.energy (few-energies u.deliveries)
+            (λ q l. (delivery_in_range u.deliveries q l).energy));
         limits =
-            front-within p.deliveries.count p.deliveries.limit (few-limits u.deliveries)
-            (λ q l. (delivery_in_range u.deliveries q l).limit);
+            rw is.limits
+            (front-within p.deliveries.count p.deliveries.limit (few-limits u.deliveries)
+            (λ q l. (delivery_in_range u.deliveries q l).limit));
       }
 
-  -- and the search on it is the plan's
-  module _ {r : Returned Ended OutOfRange} {left : List ℕ}
-      (answers : SearchAnswers (take p.engines.count amounts) (take p.deliveries.count p.deliveries.energy)
-      (take p.deliveries.count p.deliveries.limit) p.allowance lent r left) where
+  -- and its search is the plan's
+  module _ {r : Returned Ended OutOfRange} {left : List ℕ} (answers : SearchAnswers task lent r left) where
     pub search-begins : IsOk r
-    search-begins = rw (answers.in_range lent_in_range).0
+    search-begins = rw (answers.in_range task_in_range).0
 
     pub search_ends : {ended : Ended} → r ≡ Ok ended → Ends (search_at (plan_in p) T) lent ended left
     unfolding search_at capacities plan_in
     search_ends e =
-        let told = rw (front-amounts u.engines T are, ← energies_in u, ← limits_in u) at (answers.in_range lent_in_range) in
+        let told =
+        rw (is.capacities, is.energies, is.limits, is.allowance, front-amounts u.engines T are, ← energies_in u, ← limits_in u) at
+        (answers.in_range task_in_range) in
         record { ended = cc (told.0, e); table = told.1 }

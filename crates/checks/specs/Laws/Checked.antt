@@ -6,25 +6,16 @@ use Rattle.std.proofs.Common.{◌∙◌, arith}
 use Rattle.std.proofs.Math.Path.{ap}
 use Rattle.std.proofs.Math.Option.{Option, none, some}
 use Rattle.std.proofs.lemmas.List.{length-replicate}
-use Rattle.planning.specs.declared.Mode.TheVariants.{Fixed}
 use Rattle.planning.specs.declared.Plan.{Plan as ByValue}
 use Rattle.planning.specs.declared.PlanLists.{PlanLists}
 use Rattle.planning.specs.declared.Refusal.{Refusal}
 use Rattle.planning.specs.ByValue.{plan_in, Usable, by_value}
 use Rattle.planning.proofs.Laws.ByValue.{by-value-plan, by-value-usable}
 use Rattle.planning.proofs.Laws.Numbers.{unrefused-iff}
-use Rattle.planning.specs.Numbers.{Call, call_on, call_of, Accepted, plan_of, refusal_of}
+use Rattle.planning.specs.Numbers.{Call, call_of, Accepted, plan_of, refusal_of}
 use Rattle.planning.specs.Refusals.{verdict_of}
 use Rattle.checks.specs.Checked.{call_lent, plan_unless, checked_of}
 use Rattle.checks.specs.Laws.Verdicts.{accepted-by, refused-by}
-
--- the refusal does not depend on the mode
-pub fixed-refusal : (call : Call)
-    → refusal_of
-    (call_on Fixed call.minutes call.allowance call.watts call.fuels call.energies call.limits call.quiet call.table call.spare)
-    ≡ refusal_of call
-unfolding refusal_of plan_of
-fixed-refusal call = refl
 
 -- ---- by the verdict
 

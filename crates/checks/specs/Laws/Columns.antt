@@ -39,7 +39,7 @@ pub length-spans : (xs : List ℕ) → length (map span_by (quiet_of xs)) ≡ le
 length-spans xs = length-map (quiet_of xs) span_by ∙ quiet-count xs
 
 -- stored over zeros they are the spans by value
-pub spans-by-value : (xs : List ℕ) {count : ℕ} {spans : List QuietSpan} → count ≡ length xs / 3
+pub spans-by-value : (xs : List ℕ) {count : ℕ} {spans : List (QuietSpan ℕ)} → count ≡ length xs / 3
     → spans ≡ filled no_span most_quiet (map span_by (quiet_of xs)) → record { count = count; spans = spans } ≡ spans_by (quiet_of xs)
 unfolding spans_by
 spans-by-value xs c e = rw (c, e, quiet-count xs)
@@ -59,7 +59,8 @@ module _ (call : Call) (u : Usable (by_value call)) where
   fuels_fit e = (
     omega (arith, u.engines.count.most),
     λ i l.
-        omega (arith, ap (λ (f : EngineFigures). f.fuel) (figures-by-value call.watts call.fuels i (omega arith)), (engine_in_range u.engines i (omega arith)).fuel.most),
+        let inside : i < length call.watts = omega (arith, e) in
+        omega (arith, ap (λ (f : EngineFigures). f.fuel) (figures-by-value call.watts call.fuels i inside), (engine_in_range u.engines i inside).fuel.most),
   )
 
   pub energies_fit : Fits most_deliveries 32 call.energies
@@ -98,11 +99,11 @@ module _ (call : Call) (u : Usable (by_value call)) where
   unfolding quiet_at spans_by by_value
   number_fits zero k s l =
       let here = known k (omega (arith, quiet-count call.quiet)) in
-      omega (arith, here.most, u.engines.count.most, ap (λ (q : QuietSpan). q.engine) (stored k l))
+      omega (arith, here.most, u.engines.count.most, ap (λ (q : QuietSpan ℕ). q.engine) (stored k l))
   number_fits (suc zero) k s l =
-      let here = ranged k (omega (arith, quiet-count call.quiet)) in omega (arith, here.from.most, ap (λ (q : QuietSpan). q.from) (stored k l))
+      let here = ranged k (omega (arith, quiet-count call.quiet)) in omega (arith, here.from.most, ap (λ (q : QuietSpan ℕ). q.from) (stored k l))
   number_fits (suc (suc zero)) k s l =
-      let here = ranged k (omega (arith, quiet-count call.quiet)) in omega (arith, here.to.most, ap (λ (q : QuietSpan). q.to) (stored k l))
+      let here = ranged k (omega (arith, quiet-count call.quiet)) in omega (arith, here.to.most, ap (λ (q : QuietSpan ℕ). q.to) (stored k l))
   number_fits (suc (suc (suc start))) k s l = absurd (omega arith)
 
   pub quiet_fit : length call.quiet % 3 ≡ 0 → Fits (3 * most_quiet) 16 call.quiet

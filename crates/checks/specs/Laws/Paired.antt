@@ -1,7 +1,7 @@
 -- Two lists side by side, counted: a loop over `ks.iter().zip(vs).enumerate()`, which has yielded xs.
 -- Assumes nothing.
-use Rattle.std.specs.Prelude.{◌≡◌, refl, ℕ, ◌+◌, ◌<◌, length, map, min}
-use Rattle.std.proofs.Common.{List, [], ◌∷◌, Bor, Iter, Option, Some, None, get_or, ap, subst, ◌∙◌, arith}
+use Rattle.std.specs.Prelude.{◌≡◌, refl, ℕ, ◌+◌, ◌<◌, length, map, min, set}
+use Rattle.std.proofs.Common.{List, [], ◌∷◌, ◌++◌, Bor, Iter, Option, Some, None, get_or, ap, subst, ◌∙◌, arith}
 use Rattle.std.specs.declared.iter.Enumerate.{Enumerate}
 use Rattle.std.specs.declared.iter.Zip.{Zip}
 use Rattle.std.specs.Iterator.{Yields}
@@ -9,8 +9,10 @@ use Rattle.std.specs.Iterator.Adapters.{zip_first, zip_second, enumerate_source,
 use Rattle.std.specs.Slice.Iter.{iter_rest}
 use Rattle.std.proofs.lemmas.Fn.{fronts}
 use Rattle.std.proofs.lemmas.Iterator.{zips}
-use Rattle.std.proofs.lemmas.List.{length-map}
+use Rattle.std.proofs.lemmas.List.{length-map, length_push}
 use Rattle.std.proofs.lemmas.Slice.Zip.{zip_turn, zip_end}
+use Rattle.planning.proofs.Laws.Front.{Stored, stored-one-more, stored_new}
+use Rattle.planning.specs.Tables.{over_front}
 
 module _ {S A : Type 0} (steps : S → Option A → S → Type 0) where
   -- the items without their count, and the count
@@ -49,3 +51,17 @@ module _ {A B : Type 0} (ks : List A) (vs : List B) (xs : List (ℕ × (Bor A ×
       let n = length-map xs (λ (q : ℕ × (Bor A × Bor B)). q.1) in
       let z = zip_end ks vs (map (λ q. q.1) xs) (enumerate_source s) (enumerate_source t) (enumerate_source u) None first second k.0 refl m.0 in
       omega (arith, n, z)
+
+  -- ---- a turn that stores an item made of the pair, and the end: one list's items in front of another
+  module _ {C : Type 0} {new old now : List C} (stored : Stored new old (length xs) now) where
+    pub stored-turn : (dk : A) (dv : B) (d : C) (item : A → B → C)
+        → ((i : ℕ) → i < length ks → i < length vs → (i < length new) × (i < length old) × (item (get_or ks i dk) (get_or vs i dv) ≡ get_or new i d))
+        → (p : ℕ × (Bor A × Bor B)) → r ≡ Some p → enumerate_steps (zips fronts fronts) t r u
+        → Stored new old (length (xs ++ p ∷ [])) (set now p.0 (item p.1.0.now p.1.1.now))
+    stored-turn dk dv d item makes p e h =
+        let turn = counted_turn p e h in
+        let (inside, room, is) = makes (length xs) turn.1 turn.2 in
+        rw (length_push xs p, turn.0, turn.3 dk, turn.4 dv) (stored-one-more stored d _ is inside room)
+
+    pub stored-end : length new ≡ min (length ks) (length vs) → r ≡ None → enumerate_steps (zips fronts fronts) t r u → now ≡ over_front new old
+    stored-end all e h = stored_new stored (omega (arith, all, counted_end e h))

@@ -1,7 +1,9 @@
 -- The refusals in the parts that the code checks them in: the first member that fails, and that the parts make up planning's refusals.
 -- Assumes nothing.
-use Rattle.std.specs.Prelude.{◌≡◌, refl, Bool, true, false, not, ◌&&◌, List, [], ◌∷◌, ℕ, suc, ◌+◌, ◌%◌, eqb, length, Option as Place, Some, None, position, cond}
+use Rattle.std.specs.Prelude.{◌≡◌, refl, Bool, true, false, not, ◌&&◌, List, [], ◌∷◌, ℕ, suc, ◌+◌, ◌%◌, eqb, length, Option as Place, Some, position, cond}
 use Rattle.std.specs.List.{zip, position_from}
+use Rattle.std.specs.Range.{range_inclusive_start, range_inclusive_end}
+use Rattle.std.specs.declared.ops.RangeInclusive.{RangeInclusive}
 use Rattle.std.proofs.Common.{◌∙◌, sym, arith}
 use Rattle.std.proofs.Math.Option.{Option, none, some}
 use Rattle.std.proofs.lemmas.Iterator.Adapters.{position_from-zero}
@@ -20,14 +22,9 @@ use Rattle.planning.specs.Tables.{at, listed}
 use Rattle.planning.proofs.Laws.Tables.{listed-pairs}
 use Rattle.checks.specs.Checked.{call_lent}
 use Rattle.checks.specs.Laws.Verdicts.{passes}
-use Rattle.checks.specs.Parts.{counts_refusal, values_refusal, engine_sound, delivery_sound}
+use Rattle.checks.specs.Parts.{counts_refusal, values_refusal, value_at, sound, engine_sound, delivery_sound}
 
 -- ---- the first member that fails
-
--- 6 at a place of a list, the first of which has the record number r
-unfoldable pub value_at : (r : ℕ) → Place ℕ → Option Refusal
-value_at r None = none
-value_at r (Some i) = some (record { fault = Value; place = r + i })
 
 module _ {A : Type 0} (sound : A → Bool) where
   abbrev one : ℕ → A → Option Refusal
@@ -51,6 +48,13 @@ module _ {A : Type 0} (sound : A → Bool) where
   first r xs =
       let start : r + 0 ≡ r = omega arith in
       rw position_from-zero (rw start at (first-from r 0 xs))
+
+-- what the code finds by two ranges that it makes of their ends
+pub outside : (first second : RangeInclusive ℕ) (xs : List (ℕ × ℕ)) {a b c d : ℕ}
+    → range_inclusive_start first ≡ a → range_inclusive_end first ≡ b → range_inclusive_start second ≡ c → range_inclusive_end second ≡ d
+    → {o : Place ℕ} → o ≡ position (λ pair. not (sound first second pair)) xs
+    → o ≡ position (λ pair. not (within a b pair.0 && within c d pair.1)) xs
+outside first second xs start end start_2 end_2 is = rw (← start, ← end, ← start_2, ← end_2) is
 
 -- the members of two paired lists, given place by place
 pairs : {A : Type 0} (one : ℕ → A → Option Refusal) (sound : ℕ × ℕ → Bool) (f : ℕ → A) (xs ys : List ℕ) → length xs ≡ length ys
@@ -82,20 +86,6 @@ deliveries-first r energies limits e =
     (pairs delivery_fault delivery_sound _ energies limits e (λ r i. check_both _ _ Value r) r)
     ∙ first delivery_sound r (zip energies limits)
 
--- where the lists are paired, the values by the first engine and the first delivery that fail
-pub values-first : (call : Call) → length call.watts ≡ length call.fuels → length call.energies ≡ length call.limits
-    → values_refusal call
-    ≡ check (within 1 most_minutes call.minutes) Value 1
-    then check (within 0 most_tries call.allowance) Value 1
-    then value_at 2 (position (λ e. not (engine_sound e)) (zip call.watts call.fuels))
-    then value_at (2 + length call.watts) (position (λ d. not (delivery_sound d)) (zip call.energies call.limits))
-unfolding values_refusal plan_of
-values-first call engines deliveries =
-    simp (
-      engines-first 2 call.watts call.fuels (quiet_of call.quiet) engines,
-      deliveries-first (2 + length call.watts) call.energies call.limits deliveries,
-    )
-
 -- ---- the parts of a call's refusal
 
 then_assoc : (a b c : Option Refusal) → (a then b) then c ≡ a then (b then c)
@@ -110,9 +100,12 @@ pub refusal-parts : (call : Call)
     then check (eqb (length call.energies) (length call.limits)) Fields 0
     then check (eqb (length call.quiet % 3) 0) Fields 0
     then counts_refusal (length call.watts) (length call.energies) (length call.table) (length call.spare)
-    then values_refusal call
+    then check (within 1 most_minutes call.minutes) Value 1
+    then check (within 0 most_tries call.allowance) Value 1
+    then check_each engine_fault 2 (plan_of call).engines
+    then check_each delivery_fault (2 + length call.watts) (plan_of call).deliveries
     then check_quiet (length call.watts) [] (quiet_of call.quiet)
-unfolding refusal_of counts_refusal values_refusal
+unfolding refusal_of counts_refusal
 refusal-parts call = simp then_assoc
 
 -- where the lists have their lengths, the counts, the values and the quiet spans decide
@@ -128,4 +121,9 @@ module _ (lists : PlanLists) (table spare : ℕ) (engines : length lists.watts.n
       ∙ passes _ _ _ _ (eq-eqb _ _ engines)
       ∙ passes _ _ _ _ (eq-eqb _ _ deliveries)
       ∙ passes _ _ _ _ (eq-eqb _ _ threes)
-      ∙ simp length-replicate)
+      ∙ simp (
+        length-replicate,
+        engines-first 2 lists.watts.now lists.fuels.now (quiet_of lists.quiet.now) engines,
+        deliveries-first (2 + length lists.watts.now) lists.energies.now lists.limits.now deliveries,
+        then_assoc,
+      ))

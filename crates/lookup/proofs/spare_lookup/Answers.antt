@@ -9,18 +9,18 @@ use Rattle.lookup.proofs.spare_lookup.Goals as goal
 
 pub returns-then-is_empty : goal.returns-then-is_empty
 unfolding lookup_refusal check ◌then◌
-returns-then-is_empty c = looked-up _ _ (refused-permitted c.args.spare.now c.args.amount (grind (arith, nat_tests)) (ap Err c.refused.ensures))
+returns-then-is_empty c = looked-up _ _ (refused-permitted c.args.spare.now c.args.amount (grind (arith, nat_tests)) (ap Err c.at.ensures))
 
 pub returns-then-spare-gt-MOST_ENGINES : goal.returns-then-spare-gt-MOST_ENGINES
 unfolding lookup_refusal check ◌then◌
 returns-then-spare-gt-MOST_ENGINES c =
     looked-up _ _
-    (refused-permitted c.args.spare.now c.args.amount (grind (arith, nat_tests)) (ap Err c.refused-then-spare-gt-MOST_ENGINES.ensures))
+    (refused-permitted c.args.spare.now c.args.amount (grind (arith, nat_tests)) (ap Err c.at-then-spare-gt-MOST_ENGINES.ensures))
 
-pub returns-then-amount-eq0 : goal.returns-then-amount-eq0
+pub returns-then-not-contains : goal.returns-then-not-contains
 unfolding lookup_refusal check ◌then◌ within
-returns-then-amount-eq0 c =
-    looked-up _ _ (refused-permitted c.args.spare.now c.args.amount (grind (arith, nat_tests)) (ap Err c.refused-then-amount-eq0.ensures))
+returns-then-not-contains c =
+    looked-up _ _ (refused-permitted c.args.spare.now c.args.amount (grind (arith, nat_tests)) (ap Err c.at-then-not-contains.ensures))
 
 pub returns : goal.returns
 unfolding lookup_refusal check ◌then◌ within

@@ -10,7 +10,8 @@ use Rattle.planning.specs.declared.Mode.TheVariants.{Fixed, Shortest}
 use Rattle.planning.specs.declared.Outcome.TheVariants.{Found, None, Stopped}
 use Rattle.planning.specs.declared.Refusal.{Refusal}
 use Rattle.planning.proofs.Examples.Evaluation.{evaluated}
-use Rattle.planning.specs.Numbers.{Call, call_on, quiet_of, engines_of, deliveries_of, plan_of, within, engine_fault, delivery_fault, quiet_fault, check_quiet, refusal_of}
+use Rattle.planning.specs.Numbers.{Call, call_on, quiet_of, engines_of, deliveries_of, plan_of, within, engine_fault, delivery_fault, quiet_fault}
+use Rattle.planning.specs.Numbers.{check_quiet, refusal_of}
 use Rattle.planning.specs.Numbers.{answered_by, allocation, unless_refused, table_on_exit, spare_on_exit}
 use Rattle.planning.specs.Quiet.{spans_of, clear, clear_of, fits}
 use Rattle.planning.specs.Refusals.{check, ◌then◌, check_each}
@@ -43,7 +44,8 @@ turned_down fault place given =
 
 -- what the definitions make of a call
 unfoldable pub called : Call → CallExample
-unfolding evaluated quiet_of engines_of deliveries_of plan_of within engine_fault delivery_fault spans_of clear clear_of fits quiet_fault check_quiet refusal_of answered_by allocation unless_refused table_on_exit spare_on_exit check ◌then◌ check_each zip_with
+unfolding evaluated quiet_of engines_of deliveries_of plan_of within engine_fault delivery_fault spans_of clear clear_of fits quiet_fault check_quiet
+    refusal_of answered_by allocation unless_refused table_on_exit spare_on_exit check ◌then◌ check_each zip_with
 called given = record { given = given; answer = allocation given; table = table_on_exit given; spare = spare_on_exit given }
 
 pub calls : List CallExample

@@ -4,11 +4,14 @@ use Rattle.std.specs.Prelude.{ℕ, List, [], map}
 use Rattle.planning.specs.declared.Answer.{Answer}
 use Rattle.planning.specs.declared.Mode.{Mode}
 use Rattle.planning.specs.Capacity.{capacity, capacities}
-use Rattle.planning.specs.Modes.{search_at, planned_at, by_outcome, while_above, bisect, shortest, planned_in, planned, spares, table_by, table_after, spares_by, spares_after, outcome_of, tries_of, answer_of}
+use Rattle.planning.specs.Modes.{search_at, planned_at, by_outcome, while_above, bisect, shortest, planned_in, planned, spares, table_by, table_after}
+use Rattle.planning.specs.Modes.{spares_by, spares_after, outcome_of, tries_of, answer_of}
 use Rattle.planning.specs.Tables.{listed, piece_in, over_front, cell}
 use Rattle.planning.specs.Plan.{Plan, Engine, Delivery}
 use Rattle.planning.specs.Quiet.{lies, runs, running}
-use Rattle.planning.specs.Search.{total, comes_first, bulkier, replaces, with_delivery, bulkiest_of, smaller, smallest_of, smallest, step_by, step_with, step_of, can_lay, after_laying, can_cut, after_cutting, drawn, undrawn, straight_fill, with_piece, or_else, permitted, permission, one_engine, each_engine, perform, size, search_within, search_from, unless_too_much, searched}
+use Rattle.planning.specs.Search.{total, comes_first, bulkier, replaces, with_delivery, bulkiest_of, smaller, smallest_of, smallest, step_by, step_with}
+use Rattle.planning.specs.Search.{step_of, can_lay, after_laying, can_cut, after_cutting, drawn, undrawn, straight_fill, with_piece, or_else, permitted}
+use Rattle.planning.specs.Search.{permission, one_engine, each_engine, perform, size, search_within, search_from, unless_too_much, searched}
 use Rattle.planning.specs.Sum.{sum, sgn, positives}
 
 -- an engine with watts and fuel that is never quiet, a delivery with energy and limit
@@ -30,7 +33,10 @@ pub record Example : Type 0 where
 
 -- what the definitions make of a plan
 unfoldable pub evaluated : Plan → Example
-unfolding sum sgn positives lies runs running capacity capacities total comes_first bulkier replaces with_delivery bulkiest_of smaller smallest_of smallest step_by step_with step_of can_lay after_laying can_cut after_cutting drawn undrawn straight_fill cell with_piece or_else permitted permission one_engine each_engine perform size search_within search_from unless_too_much searched search_at planned_at by_outcome while_above bisect shortest planned_in planned listed piece_in spares over_front table_by table_after spares_by spares_after outcome_of tries_of answer_of
+unfolding sum sgn positives lies runs running capacity capacities total comes_first bulkier replaces with_delivery bulkiest_of smaller smallest_of
+    smallest step_by step_with step_of can_lay after_laying can_cut after_cutting drawn undrawn straight_fill cell with_piece or_else permitted
+    permission one_engine each_engine perform size search_within search_from unless_too_much searched search_at planned_at by_outcome while_above
+    bisect shortest planned_in planned listed piece_in spares over_front table_by table_after spares_by spares_after outcome_of tries_of answer_of
 evaluated p = record { given = p; answer = answer_of (planned p); table = table_after p []; spare = spares_after p [] }
 
 -- each example of a list is what the definitions make of its plan

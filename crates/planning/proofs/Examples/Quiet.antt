@@ -1,13 +1,23 @@
 -- Quiet hours (document 02, K1) on numbers: calls with spans, what is returned and what the lent table and spare list then hold, by evaluation.
 -- Assumes nothing.
-use Rattle.std.specs.Prelude.{◌≡◌, refl, List, [], ◌∷◌, map, replicate, Ok}
+use Rattle.std.specs.Prelude.{◌≡◌, refl, ℕ, List, [], ◌∷◌, ◌++◌, map, replicate, Ok}
 use Rattle.planning.specs.declared.Fault.TheVariants.{Fields, Value, UnknownEngine, QuietSpan}
 use Rattle.planning.specs.declared.Mode.TheVariants.{Fixed, Shortest}
 use Rattle.planning.specs.declared.Outcome.TheVariants.{Found, None}
+use Rattle.planning.specs.Numbers.{Call}
 use Rattle.planning.proofs.Examples.Calls.{CallExample, quiet_call, turned_down, called}
 
+-- two engines of 60 W with fuel enough, and one delivery of 1 Wh, with those quiet spans
+with_spans : List ℕ → Call
+unfolding quiet_call
+with_spans quiet = quiet_call Fixed 60 100 (60 ∷ 60 ∷ []) (1000000000 ∷ 1000000000 ∷ []) (1 ∷ []) (1 ∷ []) quiet 2 2
+
+-- as many spans of engine 1 as it may have
+abbrev eight_spans : List ℕ
+eight_spans = 1 ∷ 0 ∷ 1 ∷ 1 ∷ 2 ∷ 3 ∷ 1 ∷ 4 ∷ 5 ∷ 1 ∷ 6 ∷ 7 ∷ 1 ∷ 8 ∷ 9 ∷ 1 ∷ 10 ∷ 11 ∷ 1 ∷ 12 ∷ 13 ∷ 1 ∷ 14 ∷ 15 ∷ []
+
 pub quiet-calls : List CallExample
-unfolding quiet_call turned_down
+unfolding quiet_call with_spans turned_down
 quiet-calls =
     -- "FROM included and TO excluded": minutes 0 to 29 are quiet, 30 to 59 run
     record {
@@ -115,38 +125,38 @@ quiet-calls =
     }
     -- "at most eight spans an engine": eight of one, and one of the other
     ∷ record {
-      given = quiet_call Fixed 60 100 (60 ∷ 60 ∷ []) (1000000000 ∷ 1000000000 ∷ []) (1 ∷ []) (1 ∷ []) (1 ∷ 0 ∷ 1 ∷ 1 ∷ 2 ∷ 3 ∷ 1 ∷ 4 ∷ 5 ∷ 1 ∷ 6 ∷ 7 ∷ 1 ∷ 8 ∷ 9 ∷ 1 ∷ 10 ∷ 11 ∷ 1 ∷ 12 ∷ 13 ∷ 1 ∷ 14 ∷ 15 ∷ 2 ∷ 0 ∷ 1 ∷ []) 2 2;
+      given = with_spans (eight_spans ++ 2 ∷ 0 ∷ 1 ∷ []);
       answer = Ok (record { outcome = Found; minutes = 60; tries = 1 });
       table = (1 ∷ 0 ∷ []);
       spare = (51 ∷ 59 ∷ []);
     }
     -- 3: "a length that isn't a multiple of three"
-    ∷ turned_down Fields 0 (quiet_call Fixed 60 100 (60 ∷ 60 ∷ []) (1000000000 ∷ 1000000000 ∷ []) (1 ∷ []) (1 ∷ []) (1 ∷ []) 2 2)
-    ∷ turned_down Fields 0 (quiet_call Fixed 60 100 (60 ∷ 60 ∷ []) (1000000000 ∷ 1000000000 ∷ []) (1 ∷ []) (1 ∷ []) (1 ∷ 0 ∷ []) 2 2)
-    ∷ turned_down Fields 0 (quiet_call Fixed 60 100 (60 ∷ 60 ∷ []) (1000000000 ∷ 1000000000 ∷ []) (1 ∷ []) (1 ∷ []) (1 ∷ 0 ∷ 5 ∷ 1 ∷ []) 2 2)
+    ∷ turned_down Fields 0 (with_spans (1 ∷ []))
+    ∷ turned_down Fields 0 (with_spans (1 ∷ 0 ∷ []))
+    ∷ turned_down Fields 0 (with_spans (1 ∷ 0 ∷ 5 ∷ 1 ∷ []))
     -- 6: FROM, then TO, above 10,080
-    ∷ turned_down Value 0 (quiet_call Fixed 60 100 (60 ∷ 60 ∷ []) (1000000000 ∷ 1000000000 ∷ []) (1 ∷ []) (1 ∷ []) (1 ∷ 10081 ∷ 10081 ∷ []) 2 2)
-    ∷ turned_down Value 0 (quiet_call Fixed 60 100 (60 ∷ 60 ∷ []) (1000000000 ∷ 1000000000 ∷ []) (1 ∷ []) (1 ∷ []) (1 ∷ 0 ∷ 10081 ∷ []) 2 2)
+    ∷ turned_down Value 0 (with_spans (1 ∷ 10081 ∷ 10081 ∷ []))
+    ∷ turned_down Value 0 (with_spans (1 ∷ 0 ∷ 10081 ∷ []))
     -- 10: "no such engine"
-    ∷ turned_down UnknownEngine 0 (quiet_call Fixed 60 100 (60 ∷ 60 ∷ []) (1000000000 ∷ 1000000000 ∷ []) (1 ∷ []) (1 ∷ []) (0 ∷ 0 ∷ 5 ∷ []) 2 2)
-    ∷ turned_down UnknownEngine 0 (quiet_call Fixed 60 100 (60 ∷ 60 ∷ []) (1000000000 ∷ 1000000000 ∷ []) (1 ∷ []) (1 ∷ []) (3 ∷ 0 ∷ 5 ∷ []) 2 2)
+    ∷ turned_down UnknownEngine 0 (with_spans (0 ∷ 0 ∷ 5 ∷ []))
+    ∷ turned_down UnknownEngine 0 (with_spans (3 ∷ 0 ∷ 5 ∷ []))
     -- 11: "FROM is not below TO"
-    ∷ turned_down QuietSpan 0 (quiet_call Fixed 60 100 (60 ∷ 60 ∷ []) (1000000000 ∷ 1000000000 ∷ []) (1 ∷ []) (1 ∷ []) (1 ∷ 5 ∷ 5 ∷ []) 2 2)
-    ∷ turned_down QuietSpan 0 (quiet_call Fixed 60 100 (60 ∷ 60 ∷ []) (1000000000 ∷ 1000000000 ∷ []) (1 ∷ []) (1 ∷ []) (1 ∷ 6 ∷ 5 ∷ []) 2 2)
-    ∷ turned_down QuietSpan 0 (quiet_call Fixed 60 100 (60 ∷ 60 ∷ []) (1000000000 ∷ 1000000000 ∷ []) (1 ∷ []) (1 ∷ []) (1 ∷ 10080 ∷ 10080 ∷ []) 2 2)
+    ∷ turned_down QuietSpan 0 (with_spans (1 ∷ 5 ∷ 5 ∷ []))
+    ∷ turned_down QuietSpan 0 (with_spans (1 ∷ 6 ∷ 5 ∷ []))
+    ∷ turned_down QuietSpan 0 (with_spans (1 ∷ 10080 ∷ 10080 ∷ []))
     -- "the span overlaps an earlier one of that engine", not the last one alone: the same, nested, around, by a minute
-    ∷ turned_down QuietSpan 0 (quiet_call Fixed 60 100 (60 ∷ 60 ∷ []) (1000000000 ∷ 1000000000 ∷ []) (1 ∷ []) (1 ∷ []) (1 ∷ 5 ∷ 9 ∷ 1 ∷ 5 ∷ 9 ∷ []) 2 2)
-    ∷ turned_down QuietSpan 0 (quiet_call Fixed 60 100 (60 ∷ 60 ∷ []) (1000000000 ∷ 1000000000 ∷ []) (1 ∷ []) (1 ∷ []) (1 ∷ 0 ∷ 10 ∷ 1 ∷ 20 ∷ 30 ∷ 1 ∷ 4 ∷ 6 ∷ []) 2 2)
-    ∷ turned_down QuietSpan 0 (quiet_call Fixed 60 100 (60 ∷ 60 ∷ []) (1000000000 ∷ 1000000000 ∷ []) (1 ∷ []) (1 ∷ []) (1 ∷ 4 ∷ 6 ∷ 2 ∷ 0 ∷ 10 ∷ 1 ∷ 0 ∷ 10 ∷ []) 2 2)
-    ∷ turned_down QuietSpan 0 (quiet_call Fixed 60 100 (60 ∷ 60 ∷ []) (1000000000 ∷ 1000000000 ∷ []) (1 ∷ []) (1 ∷ []) (1 ∷ 0 ∷ 10 ∷ 1 ∷ 9 ∷ 12 ∷ []) 2 2)
-    ∷ turned_down QuietSpan 0 (quiet_call Fixed 60 100 (60 ∷ 60 ∷ []) (1000000000 ∷ 1000000000 ∷ []) (1 ∷ []) (1 ∷ []) (1 ∷ 9 ∷ 12 ∷ 1 ∷ 0 ∷ 10 ∷ []) 2 2)
+    ∷ turned_down QuietSpan 0 (with_spans (1 ∷ 5 ∷ 9 ∷ 1 ∷ 5 ∷ 9 ∷ []))
+    ∷ turned_down QuietSpan 0 (with_spans (1 ∷ 0 ∷ 10 ∷ 1 ∷ 20 ∷ 30 ∷ 1 ∷ 4 ∷ 6 ∷ []))
+    ∷ turned_down QuietSpan 0 (with_spans (1 ∷ 4 ∷ 6 ∷ 2 ∷ 0 ∷ 10 ∷ 1 ∷ 0 ∷ 10 ∷ []))
+    ∷ turned_down QuietSpan 0 (with_spans (1 ∷ 0 ∷ 10 ∷ 1 ∷ 9 ∷ 12 ∷ []))
+    ∷ turned_down QuietSpan 0 (with_spans (1 ∷ 9 ∷ 12 ∷ 1 ∷ 0 ∷ 10 ∷ []))
     -- "or it is the ninth"
-    ∷ turned_down QuietSpan 0 (quiet_call Fixed 60 100 (60 ∷ 60 ∷ []) (1000000000 ∷ 1000000000 ∷ []) (1 ∷ []) (1 ∷ []) (1 ∷ 0 ∷ 1 ∷ 1 ∷ 2 ∷ 3 ∷ 1 ∷ 4 ∷ 5 ∷ 1 ∷ 6 ∷ 7 ∷ 1 ∷ 8 ∷ 9 ∷ 1 ∷ 10 ∷ 11 ∷ 1 ∷ 12 ∷ 13 ∷ 1 ∷ 14 ∷ 15 ∷ 1 ∷ 16 ∷ 17 ∷ []) 2 2)
+    ∷ turned_down QuietSpan 0 (with_spans (eight_spans ++ 1 ∷ 16 ∷ 17 ∷ []))
     -- 6 before 10, 10 before 11
-    ∷ turned_down Value 0 (quiet_call Fixed 60 100 (60 ∷ 60 ∷ []) (1000000000 ∷ 1000000000 ∷ []) (1 ∷ []) (1 ∷ []) (9 ∷ 0 ∷ 10081 ∷ []) 2 2)
-    ∷ turned_down UnknownEngine 0 (quiet_call Fixed 60 100 (60 ∷ 60 ∷ []) (1000000000 ∷ 1000000000 ∷ []) (1 ∷ []) (1 ∷ []) (9 ∷ 5 ∷ 5 ∷ []) 2 2)
+    ∷ turned_down Value 0 (with_spans (9 ∷ 0 ∷ 10081 ∷ []))
+    ∷ turned_down UnknownEngine 0 (with_spans (9 ∷ 5 ∷ 5 ∷ []))
     -- "span by span": 11 of the first before 6 of the second
-    ∷ turned_down QuietSpan 0 (quiet_call Fixed 60 100 (60 ∷ 60 ∷ []) (1000000000 ∷ 1000000000 ∷ []) (1 ∷ []) (1 ∷ []) (1 ∷ 5 ∷ 5 ∷ 1 ∷ 0 ∷ 10081 ∷ []) 2 2)
+    ∷ turned_down QuietSpan 0 (with_spans (1 ∷ 5 ∷ 5 ∷ 1 ∷ 0 ∷ 10081 ∷ []))
     -- "checked last": behind the deliveries' 6, which has its place
     ∷ turned_down Value 4 (quiet_call Fixed 60 100 (60 ∷ 60 ∷ []) (1000000000 ∷ 1000000000 ∷ []) (0 ∷ []) (1 ∷ []) (9 ∷ 5 ∷ 5 ∷ []) 2 2)
     -- 3 before 8
@@ -154,5 +164,5 @@ quiet-calls =
     ∷ []
 
 pub quiet-calls_hold : map (λ (e : CallExample). called e.given) quiet-calls ≡ quiet-calls
-unfolding called quiet-calls
+unfolding called with_spans quiet-calls
 quiet-calls_hold = refl

@@ -12,7 +12,8 @@ use Rattle.planning.specs.declared.QuietSpan.{QuietSpan}
 use Rattle.planning.specs.declared.Spans.{Spans}
 use Rattle.planning.specs.Bounds.{most_engines, most_deliveries, most_quiet, most_fuel}
 use Rattle.planning.specs.ByValue.{quiet_at, quiet_in, engine_in, delivery_in, engines_in, deliveries_in, plan_in}
-use Rattle.planning.specs.ByValue.{UsableSpans, UsableEngines, UsableDeliveries, Usable, no_span, no_figures, span_by, spans_by, figures_of, figures_by, by_value}
+use Rattle.planning.specs.ByValue.{UsableSpans, UsableEngines, UsableDeliveries, Usable, no_span, no_figures, span_by, spans_by, figures_of, figures_by}
+use Rattle.planning.specs.ByValue.{by_value}
 use Rattle.planning.specs.Capacity.{capacity, each_capacity}
 use Rattle.planning.proofs.Laws.Numbers.{QuietKept, kept-each, engine-count, engines-quiet, delivery-count}
 use Rattle.planning.proofs.Laws.Padded.{length-filled, at-filled, length-padded, at-padded}
@@ -21,7 +22,7 @@ use Rattle.planning.proofs.Laws.Tables.{length-listed, listed_at, at_listed, lis
 use Rattle.planning.specs.Numbers.{Call, Accepted, quiet_of, engines_of, deliveries_of, plan_of}
 use Rattle.planning.specs.Plan.{Engine, Delivery, All, Within, SpanInRange, EngineInRange, DeliveryInRange, energies, limits}
 use Rattle.planning.specs.Quiet.{Quiet}
-use Rattle.planning.specs.Tables.{at, listed, filled, padded}
+use Rattle.planning.specs.Tables.{at, listed, filled}
 
 -- ---- engines
 
@@ -89,7 +90,7 @@ module _ {p : ByValue} (u : Usable p) where
 -- ---- quiet spans
 
 -- the span that is stored stands for itself
-abbrev stands : QuietSpan → Quiet
+abbrev stands : QuietSpan ℕ → Quiet
 stands s = record { engine = s.engine; span = record { from = s.from; to = s.to } }
 
 -- each at its place among those that are stored

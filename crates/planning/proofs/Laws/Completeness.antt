@@ -8,7 +8,9 @@ use Rattle.std.proofs.Common.{sym, subst, inl, inr, arith, le-ltb}
 use Rattle.std.proofs.Math.Nat.{le_of_mul-le-mul_left}
 use Rattle.planning.specs.Sum.{sum}
 use Rattle.planning.specs.Cutting.{Cuts}
-use Rattle.planning.specs.Search.{State, total, Step, finished, fills, lays, cuts, step_of, Result, found, none, stopped, with_piece, or_else, Allowance, Permission, granted, exceeds, permission, one_engine, each_engine, perform, size, search_within, search_from, unless_too_much, searched}
+use Rattle.planning.specs.Search.{State, total, Step, finished, fills, lays, cuts, step_of, Result, found, none, stopped, with_piece, or_else, Allowance}
+use Rattle.planning.specs.Search.{Permission, granted, exceeds, permission, one_engine, each_engine, perform, size, search_within, search_from}
+use Rattle.planning.specs.Search.{unless_too_much, searched}
 use Rattle.planning.specs.Tables.{at, cell}
 use Rattle.planning.proofs.Laws.Finite.Decisions.{equal_or_not}
 use Rattle.planning.proofs.Laws.Completeness.FromState.{Servable, Tried, lays-tried, cuts-tried}

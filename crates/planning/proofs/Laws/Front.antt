@@ -39,11 +39,6 @@ module _ {A : Type 0} where
   unfolding front
   front-all new old = ap (λ (zs : List A). take (length old) new ++ zs) (drop-length old) ∙ append-nil (take (length old) new)
 
--- one number more
-pub front-more : (i v : ℕ) (out new old : List ℕ) → out ≡ front i new old → v ≡ at new i → i < length new → i < length old
-    → set out i v ≡ front (i + 1) new old
-front-more = front-one-more 0
-
 drop-alike : {A : Type 0} (d : A) (i n : ℕ) → drop i (replicate n d) ≡ replicate (n - i) d
 drop-alike d zero n = rw sub-zero
 drop-alike d (suc i) zero = rw zero-sub
@@ -61,10 +56,6 @@ pub stored_none : {A : Type 0} (new old : List A) → Stored new old 0 old
 stored_none new old = record { within = omega arith; fits = omega arith; is = front-none new old }
 
 module _ {A : Type 0} {new old now : List A} {i : ℕ} (s : Stored new old i now) where
-  -- the list keeps its length
-  pub stored_length : length now ≡ length old
-  stored_length = ap length s.is ∙ front_length i new old s.within s.fits
-
   pub stored-one-more : (d v : A) → v ≡ get_or new i d → i < length new → i < length old → Stored new old (i + 1) (set now i v)
   stored-one-more d v e h l =
       record { within = omega arith; fits = omega arith; is = front-one-more d i v now new old s.is e h l }

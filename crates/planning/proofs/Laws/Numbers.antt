@@ -16,7 +16,8 @@ use Rattle.planning.proofs.Laws.All.{all_more, all-each}
 use Rattle.planning.proofs.Laws.Finite.Decisions.{le-or-lt}
 use Rattle.planning.proofs.Laws.Quiet.{ranges_more, quiet_none, spans-none}
 use Rattle.planning.proofs.Laws.Tables.{length-listed, listed-each, listed-all, listed-last}
-use Rattle.planning.specs.Numbers.{Call, Accepted, quiet_of, engines_of, deliveries_of, plan_of, within, engine_fault, delivery_fault, quiet_fault, check_quiet, refusal_of}
+use Rattle.planning.specs.Numbers.{Call, Accepted, quiet_of, engines_of, deliveries_of, plan_of, within, engine_fault, delivery_fault, quiet_fault}
+use Rattle.planning.specs.Numbers.{check_quiet, refusal_of}
 use Rattle.planning.specs.Plan.{Engine, Delivery, All, Within, QuietInRange, EngineInRange, DeliveryInRange}
 use Rattle.planning.specs.Quiet.{Quiet, spans_of, fits}
 use Rattle.planning.specs.Refusals.{check, check_each, ◌then◌}
@@ -135,7 +136,8 @@ module _ (engines : ℕ) where
   kept-front quiet (q ∷ more) k = ((kept_more quiet q).0 (kept-front (quiet ++ q ∷ []) more (rw append_assoc k))).0
 
   -- behind spans that keep it, no check refuses exactly where all of them keep it
-  pub check-quiet-iff : (earlier quiet : List Quiet) → QuietKept engines earlier → (check_quiet engines earlier quiet ≡ none) ↔ QuietKept engines (earlier ++ quiet)
+  pub check-quiet-iff : (earlier quiet : List Quiet) → QuietKept engines earlier
+      → (check_quiet engines earlier quiet ≡ none) ↔ QuietKept engines (earlier ++ quiet)
   unfolding check_quiet
   check-quiet-iff earlier [] k = (λ e. rw append-nil k, λ all. refl)
   check-quiet-iff earlier (q ∷ quiet) k =

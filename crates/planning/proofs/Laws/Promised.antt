@@ -18,7 +18,8 @@ use Rattle.planning.proofs.Laws.OnExit.{count-engines, count-deliveries, found-t
 use Rattle.planning.proofs.Laws.Promises.{none-exactly, shortest_time, fixed_time, found-serves, found-spares, stopped-exactly, stopped-tries}
 use Rattle.planning.proofs.Laws.Refusals.{Only, only-check, only_then, only-each}
 use Rattle.planning.specs.Modes.{planned, answer_of, outcome_of}
-use Rattle.planning.specs.Numbers.{Call, Accepted, quiet_of, engines_of, deliveries_of, plan_of, engine_fault, delivery_fault, quiet_fault, check_quiet, refusal_of, answered_by, allocation, table_on_exit, spare_on_exit}
+use Rattle.planning.specs.Numbers.{Call, Accepted, quiet_of, engines_of, deliveries_of, plan_of, engine_fault, delivery_fault, quiet_fault, check_quiet}
+use Rattle.planning.specs.Numbers.{refusal_of, answered_by, allocation, table_on_exit, spare_on_exit}
 use Rattle.planning.specs.Plan.{Engine, Delivery}
 use Rattle.planning.specs.Promises.{FaultOnNumbers, records_of, Promised}
 use Rattle.planning.specs.Quiet.{Quiet}

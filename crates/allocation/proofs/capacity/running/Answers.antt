@@ -17,7 +17,7 @@ use Rattle.allocation.specs.Laws.Running.{running_none, taken-most, running-next
 use Rattle.allocation.proofs.capacity.running.Goals as goal
 
 -- a span of those that are counted, as the code goes over them
-abbrev span_in : (quiet : Spans) (k : ℕ) → QuietSpan
+abbrev span_in : (quiet : Spans) (k : ℕ) → QuietSpan ℕ
 span_in quiet k = get_or (take quiet.count quiet.spans) k no_span
 
 module _ (quiet : Spans) (k : ℕ) (kept : QuietKept most_engines (quiet_in quiet)) (l : k < length (take quiet.count quiet.spans))

@@ -29,7 +29,7 @@ returns-in_err-values c =
 
 pub returns : goal.returns
 returns c =
-    c.spans.ensures
+    c.check_spans.ensures
     ∙ accepted-first _ _ (sym c.in_ok-values.was ∙ c.values.ensures)
     ∙ accepted-first _ _ (sym c.in_ok-counts.was ∙ c.counts.ensures)
     ∙ ap verdict_of (parted c.args.lists c.args.table c.args.spare c.if-lists.false c.if-lists-2.false c.if-lists-ne0.false)

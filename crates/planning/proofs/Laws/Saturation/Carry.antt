@@ -4,7 +4,8 @@ use Rattle.std.specs.Prelude.{◌≡◌, refl, ◌≢◌, ◌⊎◌, ℕ, zero, 
 use Rattle.std.proofs.Common.{ap, ◌∙◌, inl, inr, arith}
 use Rattle.planning.proofs.Laws.Finite.Decisions.{equal_or_not, le-or-lt, at-or_else}
 use Rattle.planning.proofs.Laws.Finite.Update.{only_same, only-other}
-use Rattle.planning.proofs.Laws.Saturation.Moves.{Moved, moved_else, moved-zero, moved_trans, moved_none, Traded, trade, traded_kept, Kept, kept-none, kept_trans}
+use Rattle.planning.proofs.Laws.Saturation.Moves.{Moved, moved_else, moved-zero, moved_trans, moved_none, Traded, trade, traded_kept, Kept, kept-none}
+use Rattle.planning.proofs.Laws.Saturation.Moves.{kept_trans}
 
 -- A delivery other than j has a piece on engine v and one on an engine of higher rank.
 pub record Link (engines deliveries : ℕ) (x : ℕ → ℕ → ℕ) (j : ℕ) (rank : ℕ → ℕ) (v : ℕ) : Type 0 where

@@ -5,7 +5,9 @@ use Rattle.std.specs.Prelude.{◌≡◌, refl, Bool, true, false, List, ℕ, zer
 use Rattle.std.proofs.Common.{sym, ap, ap₂, ◌∙◌, arith, length-set, get_or-set_same, get_or-set_other}
 use Rattle.std.proofs.Math.Path.{fun_ext}
 use Rattle.planning.specs.Sum.{positives}
-use Rattle.planning.specs.Search.{State, Step, finished, fills, lays, cuts, step_of, can_lay, after_laying, can_cut, after_cutting, Result, with_piece, or_else, Allowance, Permission, granted, exceeds, permission, one_engine, each_engine, perform, size, search_within, search_from}
+use Rattle.planning.specs.Search.{State, Step, finished, fills, lays, cuts, step_of, can_lay, after_laying, can_cut, after_cutting, Result, with_piece}
+use Rattle.planning.specs.Search.{or_else, Allowance, Permission, granted, exceeds, permission, one_engine, each_engine, perform, size, search_within}
+use Rattle.planning.specs.Search.{search_from}
 use Rattle.planning.specs.Tables.{at, cell}
 use Rattle.planning.proofs.Laws.Finite.Decisions.{at-or_else}
 use Rattle.planning.proofs.Laws.Search.Steps.{Chosen, step-lays, step-fills, step-cuts, can_lay-true, can_cut-true}

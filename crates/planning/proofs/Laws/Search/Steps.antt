@@ -4,7 +4,8 @@
 use Rattle.std.specs.Prelude.{◌≡◌, refl, ◌≢◌, ◌⊎◌, Bool, true, false, ◌&&◌, List, ℕ, zero, suc, ◌*◌, ◌-◌, ◌≤◌, ◌<◌, min, ltb, leb, eqb, length}
 use Rattle.std.proofs.Common.{sym, ◌∙◌, inl, inr, arith, ltb-true, ltb-false, leb-true, leb-false, eqb-true, lt-ltb, le-leb}
 use Rattle.std.proofs.lemmas.Bool.{eqb-false}
-use Rattle.planning.specs.Search.{State, comes_first, bulkier, Choice, none_left, chosen, bulkiest_of, smaller, smallest_of, smallest, Step, finished, fills, lays, cuts, step_by, step_with, step_of, can_lay, can_cut}
+use Rattle.planning.specs.Search.{State, comes_first, bulkier, Choice, none_left, chosen, bulkiest_of, smaller, smallest_of, smallest, Step, finished, fills}
+use Rattle.planning.specs.Search.{lays, cuts, step_by, step_with, step_of, can_lay, can_cut}
 use Rattle.planning.specs.Tables.{at}
 use Rattle.planning.proofs.Laws.Search.Choice.{FirstBulkiest, chosen-first, none_left_lem}
 use Rattle.planning.proofs.Laws.Finite.Decisions.{le-or-lt, below_next}

@@ -5,7 +5,9 @@ use Rattle.std.specs.Prelude.{◌≡◌, refl, ◌≢◌, ◌⊎◌, ◌↔◌, 
 use Rattle.std.proofs.Common.{sym, ap, ◌∙◌, inl, inr, ⊎_elim, arith, ltb-true, ltb-false}
 use Rattle.planning.specs.declared.Outcome.TheVariants.{Stopped}
 use Rattle.planning.specs.Modes.{outcome_of, tries_of}
-use Rattle.planning.specs.Search.{State, total, Step, finished, fills, lays, cuts, step_of, can_lay, after_laying, can_cut, after_cutting, Result, found, none, stopped, with_piece, or_else, no_pieces, up_to, unlimited, permitted, permission, one_engine, each_engine, perform, size, search_within, search_from, unless_too_much, searched}
+use Rattle.planning.specs.Search.{State, total, Step, finished, fills, lays, cuts, step_of, can_lay, after_laying, can_cut, after_cutting, Result, found}
+use Rattle.planning.specs.Search.{none, stopped, with_piece, or_else, no_pieces, up_to, unlimited, permitted, permission, one_engine, each_engine, perform}
+use Rattle.planning.specs.Search.{size, search_within, search_from, unless_too_much, searched}
 use Rattle.planning.specs.Tables.{at, cell}
 use Rattle.planning.proofs.Laws.Finite.Decisions.{le-or-lt}
 

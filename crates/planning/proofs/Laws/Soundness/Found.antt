@@ -2,7 +2,8 @@
 -- Assumes nothing.
 use Rattle.std.specs.Prelude.{◌≡◌, refl, Bool, true, false, List, ℕ, zero, suc, ◌+◌, ◌≤◌, ◌<◌, set}
 use Rattle.std.proofs.Common.{◌∙◌, arith}
-use Rattle.planning.specs.Search.{Result, found, none, stopped, Allowance, Permission, granted, exceeds, permission, with_piece, or_else, one_engine, each_engine}
+use Rattle.planning.specs.Search.{Result, found, none, stopped, Allowance, Permission, granted, exceeds, permission, with_piece, or_else, one_engine}
+use Rattle.planning.specs.Search.{each_engine}
 
 -- a try of one of the n engines from i on, which is eligible, ends in a result
 pub record TriedBy (n i : ℕ) (eligible : ℕ → Bool) (try : ℕ → ℕ → Result) (result : Result) : Type 0 where

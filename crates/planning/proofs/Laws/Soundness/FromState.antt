@@ -9,13 +9,15 @@ use Rattle.planning.proofs.Laws.Search.Bound.{size-laying, size-cutting, search_
 use Rattle.planning.proofs.Laws.Finite.Decisions.{at-or_else}
 use Rattle.planning.proofs.Laws.Soundness.Found.{TriedBy, each-found, Placed, placed}
 use Rattle.planning.proofs.Laws.Soundness.Placing.{no_piece_of_delivery, no_piece_of_engine, placed-fits}
-use Rattle.planning.proofs.Laws.Search.Steps.{Lays, Fills, CutsStep, step-finished, step-lays, step-fills, step-cuts, not-bulkier, smallest-le, can_lay-true, can_cut-true}
+use Rattle.planning.proofs.Laws.Search.Steps.{Lays, Fills, CutsStep, step-finished, step-lays, step-fills, step-cuts, not-bulkier, smallest-le, can_lay-true}
+use Rattle.planning.proofs.Laws.Search.Steps.{can_cut-true}
 use Rattle.planning.proofs.Laws.Soundness.StraightFill.{all_others, fill_length, fill_pieces, fill_whole, fill_within, fill_few}
 use Rattle.planning.proofs.Laws.Finite.Sums.{sum_one, sum-zero, sgn-le-one, positives-zero}
 use Rattle.planning.proofs.Laws.Finite.Lists.{inside_of, positives-set}
 use Rattle.planning.proofs.Laws.Soundness.Table.{cell-inside, entry_of_zeros, piece_of_zeros}
 use Rattle.planning.specs.Tables.{piece_in, at, cell}
-use Rattle.planning.specs.Search.{State, total, Step, finished, fills, lays, cuts, step_of, smallest, can_lay, after_laying, can_cut, after_cutting, straight_fill, Result, found, with_piece, Allowance, perform, size, search_from}
+use Rattle.planning.specs.Search.{State, total, Step, finished, fills, lays, cuts, step_of, smallest, can_lay, after_laying, can_cut, after_cutting}
+use Rattle.planning.specs.Search.{straight_fill, Result, found, with_piece, Allowance, perform, size, search_from}
 use Rattle.planning.specs.Sum.{positives}
 
 -- every delivery left has a limit of at least 1, and the rests add up to no more than what remains of the engines

@@ -14,7 +14,7 @@ unfolding piece_in cell
 overflow_add-sum-in-loop-p c =
     let a = c.args in
     let plan = a.self.now.plan in
-    let pieces : ℕ → ℕ = λ p. piece_in plan.engines.count a.table.now p a.i in
+    let pieces : ℕ → ℕ = λ p. piece_in plan.engines.count a.self.now.table.now p a.i in
     omega (arith, next-within c.loop-p.p plan.deliveries.count pieces c.loop-p-test.true, c.requires.most, c.loop-p.invariant)
 
 pub loop-p-preserved : goal.loop-p-preserved
@@ -22,4 +22,4 @@ unfolding piece_in cell
 loop-p-preserved c =
     let a = c.args in
     let here = c.loop-p in
-    ap (λ (s : ℕ). s + at a.table.now (here.p * a.self.now.plan.engines.count + a.i)) here.invariant ∙ sym (sum-next here.p _)
+    ap (λ (s : ℕ). s + at a.self.now.table.now (here.p * a.self.now.plan.engines.count + a.i)) here.invariant ∙ sym (sum-next here.p _)

@@ -40,7 +40,7 @@ pub loop-i-preserved : goal.loop-i-preserved
 loop-i-preserved c =
     let a = c.args in
     let engines = a.self.now.plan.engines.count in
-    let left : ℕ → ℕ = λ i. at c.capacities-capacities.result i - load_at engines a.self.now.plan.deliveries.count a.table.now i in
+    let left : ℕ → ℕ = λ i. at c.capacities-capacities.result i - load_at engines a.self.now.plan.deliveries.count a.self.now.table.now i in
     let l : c.loop-i.i < engines = omega arith in
     stored_more c.loop-i.invariant _
     (ap₂ (◌-◌) c.from.ensures c.load.ensures ∙ sym (at_listed engines left c.loop-i.i l))

@@ -3,15 +3,15 @@ use Rattle.std.proofs.Common.{arith}
 use Rattle.std.proofs.lemmas.Bool.Decides.{nat_tests}
 use Rattle.planning.specs.Numbers.{quiet_fault, within}
 use Rattle.planning.specs.Refusals.{check, ◌then◌, verdict_of}
-use Rattle.checks.proofs.quiet.span.Goals as goal
+use Rattle.checks.proofs.quiet.check_span.Goals as goal
+
+pub returns-then-span-gt-MOST_MINUTES : goal.returns-then-span-gt-MOST_MINUTES
+unfolding quiet_fault within check ◌then◌ verdict_of
+returns-then-span-gt-MOST_MINUTES c = grind (arith, nat_tests)
 
 pub returns-then-not-contains : goal.returns-then-not-contains
 unfolding quiet_fault within check ◌then◌ verdict_of
 returns-then-not-contains c = grind (arith, nat_tests)
-
-pub returns-then-not-contains-3 : goal.returns-then-not-contains-3
-unfolding quiet_fault within check ◌then◌ verdict_of
-returns-then-not-contains-3 c = grind (arith, nat_tests)
 
 pub returns-then-not-span_fits : goal.returns-then-not-span_fits
 unfolding quiet_fault within check ◌then◌ verdict_of
