@@ -18,7 +18,7 @@ module _ {energy limit : List ℕ} {s : State} (kept : Kept energy limit s) (p :
   holding = (in_slot.begun k refl).1
 
   pub slot_inside : k < most_engines
-  slot_inside = omega (arith, holds-inside s.served s.row k p holding, kept.deliveries.serveds, kept.arrays.amounts)
+  slot_inside = omega (arith, holds-inside s.served s.row k p holding, kept.deliveries.serveds, kept.lengths.amounts)
 
   pub rest_in_slot : rest_of energy s p ≡ at s.amount k
   rest_in_slot = rest_touched energy s.untouched s.amount s.served s.row p begun ∙ slot-rest kept.deliveries k p holding

@@ -3,8 +3,8 @@ pub mod Choice
 pub mod Documents
 pub mod Filling
 pub mod FirstSet
+pub mod Kept
 pub mod Layout
-pub mod Members
 pub mod Passes
 pub mod Ranges
 pub mod Rounds

@@ -2,18 +2,20 @@
 --
 -- A delivery left is untouched, and then has its energy and limit, or begun, and then lives in the slot of the engine that was first
 -- cut for it: a cut closes its engine, so that engine's amount holds the delivery's rest, and `served` the set of engines cut for it.
--- There are as many slots as the arrays are long; only `Arrays` says how long that is.
+-- There are as many slots as the arrays are long; only `Lengths` says how long that is.
 -- Assumes nothing.
-use Rattle.std.specs.Prelude.{◌≡◌, Bool, true, false, cond, ◌&&◌, List, ℕ, ◌-◌, ◌*◌, ◌≤◌, ◌<◌, ltb, eqb, length, Option, Some, None}
+use Rattle.std.specs.Prelude.{◌≡◌, Bool, true, false, cond, ◌&&◌, List, ℕ, ◌-◌, ◌≤◌, ◌<◌, ltb, eqb, length, Option, Some, None}
 use Rattle.std.specs.Int.Count.{ones}
 use Rattle.planning.specs.Bounds.{most_engines, most_deliveries, most_fuel, most_energy, most_limit}
 use Rattle.planning.specs.Tables.{listed, at}
 use Rattle.planning.specs.Plan.{Within}
 use Rattle.planning.specs.Search.{State as Document, after_laying, after_cutting}
 use Rattle.planning.specs.Sum.{sum}
+use Rattle.search.specs.declared.cycle.Run.{Run}
 use Rattle.search.specs.declared.state.Pick.{Pick}
 use Rattle.search.specs.declared.state.State.{State}
-use Rattle.search.specs.declared.state.Task.{Task}
+use Rattle.search.specs.declared.Task.{Task}
+use Rattle.search.specs.Promises.{engines_of, deliveries_of, CountsInRange}
 use Rattle.search.specs.Sets.{has}
 
 -- ---- what a state stands for
@@ -72,7 +74,7 @@ state_of engines deliveries energy limit s =
 
 -- and of a state in the search of a task
 abbrev pub document : Task → State → Document
-document task s = state_of task.engines task.deliveries task.energy task.limit s
+document task s = state_of (engines_of task) (deliveries_of task) task.energies.now task.limits.now s
 
 -- ---- what every state of a search keeps
 
@@ -89,9 +91,9 @@ pub record Deliveries (energy limit : List ℕ) (left untouched : ℕ) (amount s
   pub slot_begun : (k : ℕ) → 0 < at served k → has untouched (at row k) ≡ false
   pub slot_rests : (k : ℕ) → 0 < at served k → Within 1 most_energy (at amount k)
   pub slot_few : (k : ℕ) → 0 < at served k → ones (at served k) < at limit (at row k)
-  -- each delivery begun has a slot, and just one
-  pub slotted : (p : ℕ) → has left p ≡ true → has untouched p ≡ false → (k : ℕ) × (holds served row k p ≡ true)
+  -- no two slots have one delivery, and each delivery begun has a slot
   pub alone : (k l : ℕ) → 0 < at served k → 0 < at served l → at row k ≡ at row l → k ≡ l
+  pub slotted : (p : ℕ) → has left p ≡ true → has untouched p ≡ false → (k : ℕ) × (holds served row k p ≡ true)
 
 -- of its engines: an open engine has something remaining and its slot is free; the engines that serve a delivery are closed
 pub record Engines (opened : ℕ) (amount served : List ℕ) : Type 0 where
@@ -99,16 +101,16 @@ pub record Engines (opened : ℕ) (amount served : List ℕ) : Type 0 where
   pub free : (i : ℕ) → has opened i ≡ true → at served i ≡ 0
   pub closed : (k i : ℕ) → has (at served k) i ≡ true → (i < length served) × (has opened i ≡ false)
 
--- the arrays of the code: a slot for every engine and a place for every delivery that a plan may have
-pub record Arrays (energy limit amount : List ℕ) : Type 0 where
+-- the lengths: a slot for every engine that a plan may have, as many energies as limits, and no more deliveries than a plan may have
+pub record Lengths (energy limit amount : List ℕ) : Type 0 where
   pub amounts : length amount ≡ most_engines
-  pub energies : length energy ≡ most_deliveries
-  pub limits : length limit ≡ most_deliveries
+  pub energies : length energy ≤ most_deliveries
+  pub limits : length limit ≡ length energy
 
 pub record Kept (energy limit : List ℕ) (s : State) : Type 0 where
   pub deliveries : Deliveries energy limit s.left s.untouched s.amount s.served s.row
   pub engines : Engines s.«open» s.amount s.served
-  pub arrays : Arrays energy limit s.amount
+  pub lengths : Lengths energy limit s.amount
 
 -- ---- a plan's search
 
@@ -117,18 +119,12 @@ pub record Sized (engines deliveries left opened : ℕ) : Type 0 where
   pub engine_set : (i : ℕ) → has opened i ≡ true → i < engines
   pub delivery_set : (p : ℕ) → has left p ≡ true → p < deliveries
 
--- a table for the plan, and arrays that have room for it
-pub record Room (engines deliveries cells : ℕ) : Type 0 where
-  pub engine_count : engines ≤ most_engines
-  pub delivery_count : deliveries ≤ most_deliveries
-  pub table : cells ≡ deliveries * engines
-
--- a search under way
-pub record UnderWay (task : Task) (s : State) (made cells : ℕ) : Type 0 where
-  pub kept : Kept task.energy task.limit s
-  pub sized : Sized task.engines task.deliveries s.left s.«open»
-  pub room : Room task.engines task.deliveries cells
-  pub allowed : made ≤ task.allowance
+-- a run of the search can go on from a state
+pub record UnderWay (run : Run) (s : State) : Type 0 where
+  pub kept : Kept run.task.now.energies.now run.task.now.limits.now s
+  pub sized : Sized (engines_of run.task.now) (deliveries_of run.task.now) s.left s.«open»
+  pub counts : CountsInRange run.task.now (length run.table.now)
+  pub allowed : run.tries ≤ run.task.now.allowance
 
 -- ---- laying and cutting
 

@@ -1,39 +1,36 @@
 // What found by straight fill begins with: the whole table.
-ghost use Rattle.std.specs.Prelude.{◌≡◌, List, ℕ, ◌≤◌, ◌<◌, length};
+ghost use Rattle.std.specs.Prelude.{◌≡◌, ℕ, ◌≤◌, ◌<◌, length};
 ghost use Rattle.planning.specs.Bounds.{most_engines, most_deliveries};
 ghost use Rattle.planning.specs.Tables.{listed};
 ghost use Rattle.planning.specs.Search.{drawn, undrawn, straight_fill};
-ghost use Rattle.search.specs.Layout.{remaining_at, rest_of as rest_left, Kept, Room};
+ghost use Rattle.search.specs.Layout.{remaining_at, rest_of as rest_left};
+ghost use Rattle.search.specs.Promises.{engines_of, deliveries_of, CountsInRange};
+ghost use Rattle.search.specs.Steps.{energies};
 
-use crate::choice::candidate_at;
 use crate::members::has;
-use crate::state::{State, Task};
+use crate::state::State;
+use crate::view::View;
 use planning::MOST_ENGINES;
+use std::array;
 
-// What is left of a delivery, 0 of one that is done.
-fn rest_of(p: usize, s: &State, task: &Task) -> u32
-    requires kept { Kept task.now.energy task.now.limit s.now }
-    requires inside { p < most_deliveries }
-    ensures { result ≡ rest_left task.now.energy s.now p }
+// What remains of engine i, 0 of a closed one.
+#[tactic(auto, unfolding(crate::specs::Layout::remaining_at))]
+fn remaining(s: &State, i: usize) -> u32
+    requires { i < most_engines }
+    ensures { result ≡ remaining_at s.now.«open» s.now.amount i }
 {
-    if has(s.left, p) {
-        candidate_at(p, s, task).pick.rest
+    if has(u64::from(s.open), i) {
+        s.amount[i]
     } else {
         0
     }
 }
 
-// What remains of each engine, 0 of a closed one.
+// And of each engine.
 fn open_amounts(s: &State) -> [u32; MOST_ENGINES]
     ensures { result ≡ listed most_engines (λ i. remaining_at s.now.«open» s.now.amount i) }
 {
-    let mut out = s.amount;
-    for (i, remaining) in out.iter_mut().enumerate() {
-        if !has(u64::from(s.open), i) {
-            *remaining = 0;
-        }
-    }
-    out
+    array::from_fn(|i| remaining(s, i))
 }
 
 // One delivery's row: from each engine in turn what it still has, until the rest is drawn.
@@ -51,23 +48,37 @@ fn fill_row(row: &mut [u64], mut rest: u32, remaining: &mut [u32])
     }
 }
 
-// Every row, in file order.
-pub(crate) fn straight(s: &State, task: &Task, table: &mut [u64])
-    requires kept { Kept task.now.energy task.now.limit s.now }
-    requires room { Room task.now.engines task.now.deliveries (length table.old) }
-    ensures { table.new
-        ≡ straight_fill
-        (listed task.now.deliveries (λ p. rest_left task.now.energy s.now p))
-        (listed task.now.engines (λ i. remaining_at s.now.«open» s.now.amount i)) }
-{
-    let mut remaining = open_amounts(s);
-    // Rows by index: `chunks_exact_mut` takes no rows of length 0, and there may be no engines.
-    for p in 0..task.deliveries {
-        let from = p * task.engines;
-        fill_row(
-            &mut table[from..from + task.engines],
-            rest_of(p, s, task),
-            &mut remaining[..task.engines],
-        );
+impl View<'_> {
+    // What is left of a delivery, 0 of one that is done.
+    fn rest_of(&self, p: usize) -> u32
+        requires { p < most_deliveries }
+        ensures { result ≡ rest_left (energies self.now) self.now.state.now p }
+    {
+        if has(self.state.left, p) {
+            self.candidate_at(p).pick.rest
+        } else {
+            0
+        }
+    }
+
+    // Every row, in file order.
+    pub(crate) fn straight(&self, table: &mut [u64])
+        requires { CountsInRange self.now.task.now (length table.old) }
+        ensures { let s = self.now.state.now in table.new
+            ≡ straight_fill
+            (listed (deliveries_of self.now.task.now) (λ p. rest_left (energies self.now) s p))
+            (listed (engines_of self.now.task.now) (λ i. remaining_at s.«open» s.amount i)) }
+    {
+        let engines = self.task.capacities.len();
+        let mut remaining = open_amounts(self.state);
+        // Rows by index: over `chunks_exact_mut`, tried, what the table holds at the end did not prove.
+        for p in 0..self.task.energies.len() {
+            let from = p * engines;
+            fill_row(
+                &mut table[from..from + engines],
+                self.rest_of(p),
+                &mut remaining[..engines],
+            );
+        }
     }
 }

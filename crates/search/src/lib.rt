@@ -8,10 +8,20 @@ mod members;
 mod ranges;
 mod start;
 mod state;
+mod view;
 
 ghost use Rattle.search.specs.Promises.{Answers};
 
 use planning::Outcome;
+
+// What is searched: the capacities, and of each delivery the energy and the limit, in file order, with the allowance of tries.
+#[derive(Clone, Copy)]
+pub struct Task<'a> {
+    pub capacities: &'a [u32],
+    pub energies: &'a [u32],
+    pub limits: &'a [u8],
+    pub allowance: u32,
+}
 
 // What a search ends in, with its tries.
 #[derive(Clone, Copy, Debug, PartialEq, Eq)]
@@ -24,19 +34,12 @@ pub struct Ended {
 #[derive(Clone, Copy, Debug, PartialEq, Eq)]
 pub struct OutOfRange;
 
-// The search for capacities, energies and limits in file order, lent a piece table of deliveries × engines: found writes all of it, and
-// otherwise it is kept.
-pub fn search(
-    capacities: &[u32],
-    energies: &[u32],
-    limits: &[u8],
-    allowance: u32,
-    table: &mut [u64],
-) -> Result<Ended, OutOfRange>
-    ensures { Answers capacities.now energies.now limits.now allowance table.old result table.new }
+// The search of a task, lent a piece table of deliveries × engines: found writes all of it, and otherwise it is kept.
+pub fn search(task: Task, table: &mut [u64]) -> Result<Ended, OutOfRange>
+    ensures { Answers task.entry table.old result table.new }
 {
-    if !ranges::in_range(capacities, energies, limits, allowance, table.len()) {
+    if !task.in_range(table.len()) {
         return Err(OutOfRange);
     }
-    Ok(start::begin(capacities, energies, limits, allowance, table))
+    Ok(start::begin(&task, table))
 }

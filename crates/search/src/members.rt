@@ -5,6 +5,7 @@ ghost use Rattle.search.specs.Members.{TakesLeast};
 ghost use Rattle.search.specs.Sets.{delivery_bits, has as is_member};
 
 // Whether i is a member.
+#[tactic(auto, unfolding(crate::specs::Sets::has))]
 pub(crate) fn has(set: u64, i: usize) -> bool
     requires { i < delivery_bits }
     ensures { result ≡ is_member set i }

@@ -1,14 +1,14 @@
 // Step A, and the state that the other steps begin in.
-ghost use Rattle.std.specs.Prelude.{◌≡◌, ◌++◌, ℕ, ◌-◌, ◌≤◌, ◌^◌, ltb, length, replicate, sum};
+ghost use Rattle.std.specs.Prelude.{◌≡◌, ℕ, ◌≤◌, ◌^◌, ltb, length, sum};
 ghost use Rattle.planning.specs.Bounds.{most_engines, most_deliveries};
-ghost use Rattle.planning.specs.Search.{searched, up_to};
-ghost use Rattle.planning.specs.Tables.{at};
-ghost use Rattle.search.specs.Promises.{InSearchRange};
+ghost use Rattle.planning.specs.Tables.{at, padded};
+ghost use Rattle.search.specs.Promises.{InSearchRange, search_of};
 ghost use Rattle.search.specs.Sets.{has};
 ghost use Rattle.search.specs.Steps.{EndsIn};
 
-use crate::state::{State, Task};
-use crate::{Ended, cycle};
+use crate::cycle::Run;
+use crate::state::State;
+use crate::{Ended, Task};
 use planning::{MOST_ENGINES, Outcome};
 
 // The sum of a list.
@@ -19,14 +19,14 @@ fn total(list: &[u32]) -> u64
     list.iter().map(|x| u64::from(*x)).sum()
 }
 
-// A list in an array, and behind it what stands for no number of it.
-fn padded<T: Copy, const N: usize>(list: &[T], none: T) -> [T; N]
-    requires { length list.now ≤ N }
-    ensures { result ≡ list.now ++ replicate (N - length list.now) none }
+// What remains of each engine at first: its capacity, and 0 behind the plan's engines.
+fn first_amounts(capacities: &[u32]) -> [u32; MOST_ENGINES]
+    requires { length capacities.now ≤ most_engines }
+    ensures { result ≡ padded most_engines capacities.now }
 {
-    let mut out = [none; N];
-    out[..list.len()].copy_from_slice(list);
-    out
+    let mut amounts = [0; MOST_ENGINES];
+    amounts[..capacities.len()].copy_from_slice(capacities);
+    amounts
 }
 
 // The engines with a capacity above 0, as a set.
@@ -52,37 +52,33 @@ fn first_deliveries(n: usize) -> u64
 }
 
 // Step A, then the other steps from the first state.
-pub(crate) fn begin(
-    capacities: &[u32],
-    energies: &[u32],
-    limits: &[u8],
-    allowance: u32,
-    table: &mut [u64],
-) -> Ended
-    requires { InSearchRange capacities.now energies.now limits.now allowance (length table.old) }
-    ensures { EndsIn (searched capacities.now energies.now limits.now (up_to allowance)) table.old result table.new }
+pub(crate) fn begin(task: &Task, table: &mut [u64]) -> Ended
+    requires { InSearchRange task.now (length table.old) }
+    ensures { EndsIn (search_of task.now) table.old result table.new }
 {
-    if total(capacities) < total(energies) {
+    if total(task.capacities) < total(task.energies) {
         return Ended {
             outcome: Outcome::None,
             tries: 0,
         };
     }
-    let task = Task {
-        engines: capacities.len(),
-        deliveries: energies.len(),
-        energy: padded(energies, 0),
-        limit: padded(limits, 0),
-        allowance,
-    };
-    let left = first_deliveries(energies.len());
+    let left = first_deliveries(task.energies.len());
     let first = State {
         left,
         untouched: left,
-        amount: padded(capacities, 0),
+        amount: first_amounts(task.capacities),
         served: [0; MOST_ENGINES],
         row: [0; MOST_ENGINES],
-        open: open_engines(capacities),
+        open: open_engines(task.capacities),
     };
-    cycle::choose(first, 0, &task, table)
+    let mut run = Run {
+        task,
+        table,
+        tries: 0,
+    };
+    let outcome = run.choose(first);
+    Ended {
+        outcome,
+        tries: run.tries,
+    }
 }

@@ -1,19 +1,11 @@
 // The search state. A delivery is untouched, begun or done. One that is begun lives in the slot of the engine that was first cut
 // for it: a cut closes its engine, so that engine's amount is free to hold the delivery's rest.
-ghost use Rattle.std.specs.Prelude.{◌≡◌, List, ℕ, ◌≤◌};
+ghost use Rattle.std.specs.Prelude.{◌≡◌, true, List, ℕ, ◌-◌, ◌^◌, ◌≤◌, ◌<◌, cond, eqb};
+ghost use Rattle.planning.specs.Bounds.{most_engines};
 ghost use Rattle.search.specs.Layout.{Kept, Picked, Layable, Cuttable, Laid, CutOff, limit_of};
+ghost use Rattle.search.specs.Sets.{has};
 
-use planning::{MOST_DELIVERIES, MOST_ENGINES};
-
-// What stays the same over a search: the plan's counts, its deliveries' energies and limits, 0 behind them, and the allowance of tries.
-#[derive(Clone, Copy)]
-pub(crate) struct Task {
-    pub engines: usize,
-    pub deliveries: usize,
-    pub energy: [u32; MOST_DELIVERIES],
-    pub limit: [u8; MOST_DELIVERIES],
-    pub allowance: u32,
-}
+use planning::MOST_ENGINES;
 
 // Three columns: an array of structs would pad seven bytes of an engine to eight, and a state, which each try copies, from 104 bytes to 120.
 #[derive(Clone, Copy)]
@@ -39,6 +31,18 @@ pub(crate) struct Pick {
     pub rest: u32,
 }
 
+// The engines open once engine i, which was one of them, has so much remaining: it is closed where that is nothing.
+fn open_after(open: u16, i: usize, remaining: u32) -> u16
+    requires { (i < most_engines) × (has «open» i ≡ true) }
+    ensures { result ≡ cond (eqb remaining 0) («open» - 2 ^ i) «open» }
+{
+    if remaining == 0 {
+        open - (1u16 << i)
+    } else {
+        open
+    }
+}
+
 impl State {
     // `lay` and `cut` give each try a state of its own by value, so what a state keeps (`Kept`) is asked for here, and no view carries it.
 
@@ -51,9 +55,7 @@ impl State {
     {
         let remaining = self.amount[i] - pick.rest;
         self.amount[i] = remaining;
-        if remaining == 0 {
-            self.open -= 1u16 << i;
-        }
+        self.open = open_after(self.open, i, remaining);
         self.left -= 1u64 << pick.row;
         match pick.slot {
             Some(slot) => self.served[slot] = 0,

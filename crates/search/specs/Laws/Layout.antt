@@ -5,5 +5,6 @@ pub mod Deliveries
 pub mod Laying
 pub mod Lookup
 pub mod Picked
+pub mod Remaining
 pub mod Serving
 pub mod Slots

@@ -1,15 +1,17 @@
 -- A pass over a set in file order, from least member to least member, and the smallest remaining of the open engines by such a pass.
 -- Assumes nothing.
-use Rattle.std.specs.Prelude.{◌≡◌, refl, ◌≢◌, ◌⊎◌, true, false, List, ℕ, zero, suc, min, ◌-◌, ◌^◌, ◌≤◌, ◌<◌}
-use Rattle.std.proofs.Common.{sym, ap, ◌∙◌, inl, inr, true≢false, arith, pow_pos}
+use Rattle.std.specs.Prelude.{◌≡◌, refl, ◌≢◌, ◌⊎◌, true, false, List, [], ◌∷◌, ℕ, zero, suc, min, ◌-◌, ◌^◌, ◌≤◌, ◌<◌}
+use Rattle.std.proofs.Common.{sym, ap, ◌∙◌, inl, inr, true≢false, arith}
 use Rattle.std.specs.Int.Count.{count_trailing_zeros}
+use Rattle.std.specs.Iterator.{Yields}
 use Rattle.planning.proofs.Laws.Finite.Decisions.{le-or-lt, at-or_else}
 use Rattle.planning.proofs.Laws.Tables.{at_listed}
 use Rattle.planning.specs.Tables.{listed, at}
 use Rattle.planning.specs.Search.{smaller, smallest_of}
-use Rattle.search.specs.Laws.Sets.{has-zero, has-without-same, has-without-other, least-member, power_le}
+use Rattle.search.specs.Laws.Sets.{has-zero, has-without-same, has-without-other, least-member}
 use Rattle.search.specs.Layout.{remaining_at}
-use Rattle.search.specs.Members.{IsLeast}
+use Rattle.search.specs.declared.members.Members.{Members}
+use Rattle.search.specs.Members.{IsLeast, TakesLeast}
 use Rattle.search.specs.Sets.{has}
 
 -- ---- the set that is still to be passed
@@ -29,8 +31,6 @@ pub record Next (all set n t : ℕ) : Type 0 where
   pub later : n ≤ t
   pub between : (q : ℕ) → n ≤ q → q < t → has all q ≡ false
   pub ahead : Ahead all (set - 2 ^ t) (suc t)
-  pub power : 2 ^ t ≤ set
-  pub less : set - 2 ^ t < set
 
 -- the least member, as a pass takes it
 pub next-taken : {all set n t others : ℕ} → Ahead all set n → IsLeast set t others → Next all set n t
@@ -47,8 +47,6 @@ next-taken {all} {set} {n} {t} a taken =
             from = λ q g. past q g (le-or-lt (suc t) q);
             same = λ q m. has-without-other set t q h (omega arith) ∙ a.same q (omega arith);
           };
-      power = power_le set t h;
-      less = omega (arith, pow_pos t, power_le set t h);
     }
   where
     past : (q : ℕ) → has (set - 2 ^ t) q ≡ true → (suc t ≤ q) ⊎ (q < suc t) → suc t ≤ q
@@ -69,8 +67,11 @@ pub least-of : (k set : ℕ) → set ≢ 0 → set < 2 ^ k → IsLeast set (coun
 least-of k set s l =
     let least = least-member k set (omega arith) l in record { member = least.1; first = least.2; without = refl }
 
-pub next-member : (k all set n : ℕ) → all < 2 ^ k → set ≢ 0 → Ahead all set n → Next all set n (count_trailing_zeros k set)
-next-member k all set n s z a = next-taken a (least-of k set z (omega (arith, a.most)))
+-- what is left once a pass took so many
+pub ahead_after : {all n : ℕ} (xs : List ℕ) (s t : Members) → Ahead all s.0 n → Yields TakesLeast s xs t → (m : ℕ) × Ahead all t.0 m
+ahead_after {n = n} [] s t a e = rw (← e) (n, a)
+ahead_after {all} (i ∷ xs) s t a (j, taken, rest) =
+    let more : Ahead all j.0 (suc i) = rw taken.without (next-taken a taken).ahead in ahead_after {n = suc i} xs j t more rest
 
 -- nothing is ahead
 pub ahead_none : (all n : ℕ) → Ahead all 0 n → (q : ℕ) → n ≤ q → has all q ≡ false
@@ -102,9 +103,6 @@ smaller-min (suc m) (suc c) p q = refl
 pub smaller-taken : (m c : ℕ) → 0 < c → (m ≡ 0) ⊎ (c < m) → smaller m c ≡ c
 smaller-taken m c p (inl e) = ap (λ (x : ℕ). smaller x c) e ∙ smaller-first c
 smaller-taken m c p (inr l) = omega (arith, smaller-min m c (omega arith) p)
-
-pub smaller-kept : (m c : ℕ) → 0 < c → m ≢ 0 → m ≤ c → smaller m c ≡ m
-smaller-kept m c p n l = omega (arith, smaller-min m c (omega arith) p)
 
 -- what remains of the engines of a plan
 abbrev pub remainings : (engines opened : ℕ) → (amount : List ℕ) → List ℕ

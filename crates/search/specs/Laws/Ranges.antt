@@ -3,17 +3,18 @@
 use Rattle.std.specs.Prelude.{◌≡◌, refl, ◌⊎◌, List, ℕ, ◌≤◌, ◌<◌, ltb, length, take, sum, zero, suc}
 use Rattle.std.proofs.Common.{ap, ◌∙◌, add-one, take_all, inl, inr, lt-ltb, le-ltb, arith}
 use Rattle.std.proofs.Math.ListN.{get_or-eq_default}
-use Rattle.planning.specs.Bounds.{most_engines, most_deliveries, most_fuel}
+use Rattle.planning.specs.Bounds.{most_engines, most_tries, most_fuel}
 use Rattle.planning.proofs.Laws.Finite.Decisions.{le-or-lt}
 use Rattle.planning.specs.Search.{none, total, up_to, searched, unless_too_much, search_from}
 use Rattle.planning.specs.Sum.{sum as sum_of}
 use Rattle.planning.specs.Tables.{at, padded}
 use Rattle.std.proofs.lemmas.List.Sums.{sum_by_more}
-use Rattle.search.specs.declared.state.Task.{Task}
+use Rattle.search.specs.declared.cycle.Run.{Run}
+use Rattle.search.specs.declared.Task.{Task}
 use Rattle.search.specs.Layout.{document, UnderWay}
 use Rattle.planning.proofs.Laws.Padded.{length-padded}
 use Rattle.search.specs.Laws.Start.{first_state, Begins, first-deliveries, first-engines, first-sized, first-state}
-use Rattle.search.specs.Promises.{AllWithin, InSearchRange}
+use Rattle.search.specs.Promises.{AllWithin, InSearchRange, deliveries_of, search_of}
 use Rattle.search.specs.Sets.{has}
 
 -- the sum of a list as the code computes it
@@ -33,61 +34,60 @@ most_everywhere low high xs all i = go (le-or-lt (length xs) i)
     go (inl l) = omega (arith, get_or-eq_default xs 0 l)
     go (inr l) = (all i l).most
 
-module _ {capacity energy limit : List ℕ} {allowance cells : ℕ} (range : InSearchRange capacity energy limit allowance cells) where
+module _ {task : Task} {cells : ℕ} (range : InSearchRange task cells) where
   -- step A
-  pub too_much : total capacity < total energy → searched capacity energy limit (up_to allowance) ≡ none 0
+  pub too_much : total task.capacities.now < total task.energies.now → search_of task ≡ none 0
   unfolding searched unless_too_much
-  too_much l = rw (lt-ltb (total capacity) (total energy) l)
+  too_much l = rw (lt-ltb (total task.capacities.now) (total task.energies.now) l)
 
   -- the other steps, from the first state
-  module _ {energies limits amount : List ℕ} (left opened : ℕ) (e : energies ≡ padded most_deliveries energy) (l : limits ≡ padded most_deliveries limit)
-      (a : amount ≡ padded most_engines capacity) (lefts : (p : ℕ) → has left p ≡ ltb p (length energy))
-      (opens : (i : ℕ) → has opened i ≡ ltb 0 (at capacity i)) where
-    begins : Begins most_engines most_deliveries capacity energy limit left opened
+  module _ {amount : List ℕ} (left opened : ℕ) (a : amount ≡ padded most_engines task.capacities.now)
+      (lefts : (p : ℕ) → has left p ≡ ltb p (deliveries_of task)) (opens : (i : ℕ) → has opened i ≡ ltb 0 (at task.capacities.now i)) where
+    begins : Begins most_engines task.capacities.now task.energies.now task.limits.now left opened
     begins =
         record {
           paired = range.counts.paired;
           engine_count = range.counts.engine_count;
-          delivery_count = range.counts.delivery_count;
-          most = most_everywhere 0 most_fuel capacity range.capacities;
+          most = most_everywhere 0 most_fuel task.capacities.now range.capacities;
           energies = range.energies;
           limits = range.limits;
           deliveries = lefts;
           engines = opens;
         }
 
-    abbrev pub task_of : (granted : ℕ) → Task
-    task_of granted =
-        record { engines = length capacity; deliveries = length energy; energy = energies; limit = limits; allowance = granted }
-
-    -- whatever its allowance
-    pub begun : (granted : ℕ) → UnderWay (task_of granted) (first_state most_engines amount left opened) 0 cells
-    begun granted =
-        rw (e, l, a)
+    -- whatever the allowance
+    pub begun : {run : Run} (granted : ℕ) → granted ≤ most_tries
+        → run.task.now ≡ record task { allowance = granted } → length run.table.now ≡ cells → run.tries ≡ 0
+        → UnderWay run (first_state most_engines amount left opened)
+    begun granted l is_task long at_first =
+        rw a
         (record {
           kept =
-              record {
+              rw is_task
+              (record {
                 deliveries = first-deliveries begins;
                 engines = first-engines begins;
-                arrays =
+                lengths =
                     record {
-                      amounts = length-padded most_engines capacity range.counts.engine_count;
-                      energies = length-padded most_deliveries energy range.counts.delivery_count;
-                      limits = length-padded most_deliveries limit (omega (arith, range.counts.paired, range.counts.delivery_count));
+                      amounts = length-padded most_engines task.capacities.now range.counts.engine_count;
+                      energies = range.counts.delivery_count;
+                      limits = range.counts.paired;
                     };
-              };
-          sized = first-sized begins;
-          room =
-              record {
+              });
+          sized = rw is_task (first-sized begins);
+          counts =
+              rw (is_task, long)
+              (record {
                 engine_count = range.counts.engine_count;
                 delivery_count = range.counts.delivery_count;
+                paired = range.counts.paired;
                 table = range.counts.table;
-              };
-          allowed = omega arith;
+                tries = l;
+              });
+          allowed = omega (arith, at_first);
         })
 
-    pub searched-from : total energy ≤ total capacity
-        → searched capacity energy limit (up_to allowance)
-        ≡ search_from (up_to allowance) (document (task_of allowance) (first_state most_engines amount left opened)) 0
+    pub searched-from : total task.energies.now ≤ total task.capacities.now
+        → search_of task ≡ search_from (up_to task.allowance) (document task (first_state most_engines amount left opened)) 0
     unfolding searched unless_too_much
-    searched-from enough = rw (le-ltb (total capacity) (total energy) enough, e, l, a, first-state begins)
+    searched-from enough = rw (le-ltb (total task.capacities.now) (total task.energies.now) enough, a, first-state begins)

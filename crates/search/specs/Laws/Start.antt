@@ -1,5 +1,5 @@
 -- The state that a search begins in: every engine with a capacity above 0 is open, every delivery left and untouched, no slot in use. For
--- arrays of any length that has room for the plan.
+-- any number of slots that has room for the plan's engines.
 -- Assumes nothing.
 use Rattle.std.specs.Prelude.{◌≡◌, Bool, List, ℕ, ◌≤◌, ◌<◌, ltb, length}
 use Rattle.std.proofs.Math.Path.{refl}
@@ -25,12 +25,10 @@ use Rattle.search.specs.Sets.{has}
 abbrev pub first_state : (slots : ℕ) → (amount : List ℕ) → (left opened : ℕ) → State
 first_state slots amount left opened = state_in left left amount (replicate slots 0) (replicate slots 0) opened
 
--- what a search is begun with: lists that have room in the arrays and are in range, the first deliveries and the engines with a capacity
--- above 0
-pub record Begins (slots places : ℕ) (capacity energy limit : List ℕ) (left opened : ℕ) : Type 0 where
+-- what a search is begun with: lists in range with a slot for each engine, the first deliveries and the engines with a capacity above 0
+pub record Begins (slots : ℕ) (capacity energy limit : List ℕ) (left opened : ℕ) : Type 0 where
   pub paired : length limit ≡ length energy
   pub engine_count : length capacity ≤ slots
-  pub delivery_count : length energy ≤ places
   pub most : (i : ℕ) → at capacity i ≤ most_fuel
   pub energies : (p : ℕ) → p < length energy → Within 1 most_energy (at energy p)
   pub limits : (p : ℕ) → p < length limit → Within 1 most_limit (at limit p)
@@ -43,7 +41,7 @@ listed-all xs n f e h =
     ext_get_or 0 (listed n f) xs (length-listed n f ∙ sym e)
     (λ i l. let k : i < n = omega (arith, length-listed n f) in at_listed n f i k ∙ h i k)
 
-module _ {slots places : ℕ} {capacity energy limit : List ℕ} {left opened : ℕ} (b : Begins slots places capacity energy limit left opened) where
+module _ {slots : ℕ} {capacity energy limit : List ℕ} {left opened : ℕ} (b : Begins slots capacity energy limit left opened) where
   left-inside : (p : ℕ) → has left p ≡ true → p < length energy
   left-inside p h = ltb-true p (length energy) (sym (b.deliveries p) ∙ h)
 
@@ -59,16 +57,12 @@ module _ {slots places : ℕ} {capacity energy limit : List ℕ} {left opened : 
   all_slots : length (replicate {A = ℕ} slots 0) ≡ length (padded slots capacity)
   all_slots = length-replicate slots 0 ∙ sym (length-padded slots capacity b.engine_count)
 
-  pub first-deliveries : Deliveries (padded places energy) (padded places limit) left left (padded slots capacity) (replicate slots 0) (replicate slots 0)
+  pub first-deliveries : Deliveries energy limit left left (padded slots capacity) (replicate slots 0) (replicate slots 0)
   first-deliveries =
       record {
         serveds = all_slots;
         rows = all_slots;
-        in_range = λ p h.
-            let l : p < length energy = left-inside p h in (
-              rw (at-padded places energy p) (b.energies p l),
-              rw (at-padded places limit p) (b.limits p (omega (arith, b.paired))),
-            );
+        in_range = λ p h. let l : p < length energy = left-inside p h in (b.energies p l, b.limits p (omega (arith, b.paired)));
         untouched_left = λ p h. h;
         slot_left = λ k u. absurd (free_slot k u);
         slot_begun = λ k u. absurd (free_slot k u);
@@ -101,16 +95,15 @@ module _ {slots places : ℕ} {capacity energy limit : List ℕ} {left opened : 
   untouched-first p l = b.deliveries p ∙ lt-ltb p (length energy) l
 
   -- it stands for document 01's first state
-  pub first-state : state_of (length capacity) (length energy) (padded places energy) (padded places limit)
-      (first_state slots (padded slots capacity) left opened)
+  pub first-state : state_of (length capacity) (length energy) energy limit (first_state slots (padded slots capacity) left opened)
       ≡ record { remaining = capacity; rest = energy; limit = limit }
   unfolding state_of
   first-state =
       let free = replicate {A = ℕ} slots 0 in
       rw (
         listed-all capacity (length capacity) (λ i. remaining_at opened (padded slots capacity) i) refl (λ i l. remaining-first i),
-        listed-all energy (length energy) (λ p. rest_at (padded places energy) left (padded slots capacity) free free p) refl
-            (λ p l. rest-untouched (padded places energy) left (padded slots capacity) free free p (untouched-first p l) ∙ at-padded places energy p),
-        listed-all limit (length energy) (λ p. limit_at (padded places limit) left left free free p) b.paired
-            (λ p l. let u = untouched-first p l in limit-untouched (padded places limit) left left free free p u u ∙ at-padded places limit p),
+        listed-all energy (length energy) (λ p. rest_at energy left (padded slots capacity) free free p) refl
+            (λ p l. rest-untouched energy left (padded slots capacity) free free p (untouched-first p l)),
+        listed-all limit (length energy) (λ p. limit_at limit left left free free p) b.paired
+            (λ p l. let u = untouched-first p l in limit-untouched limit left left free free p u u),
       )

@@ -14,14 +14,15 @@ use Rattle.planning.specs.Plan.{Within}
 use Rattle.planning.specs.Search.{after_cutting}
 use Rattle.search.specs.declared.state.Pick.{Pick}
 use Rattle.search.specs.declared.state.State.{State}
-use Rattle.search.specs.Layout.{holds, remaining_at, rest_of, limit_of, state_of, Arrays, Deliveries, Engines, Kept, Sized, Picked, CutOff}
+use Rattle.search.specs.Layout.{holds, remaining_at, rest_of, limit_of, state_of, Lengths, Deliveries, Engines, Kept, Sized, Picked, CutOff}
 use Rattle.search.specs.Sets.{has}
 use Rattle.search.specs.Laws.Documents.{listed-set, same_document}
-use Rattle.search.specs.Laws.Members.{remaining_open}
+use Rattle.search.specs.Laws.Layout.Remaining.{remaining_open}
 use Rattle.search.specs.Laws.Sets.{clash, has-without-same, has-without-other}
 use Rattle.search.specs.Laws.Layout.CutSlot.{Cuts, Slot, begun_slot, fresh_slot}
 use Rattle.search.specs.Laws.Layout.Serving.{open_inside}
-use Rattle.search.specs.Laws.Layout.Slots.{holds_by, holds-other, holds_alike, rest_of_slot, served_of_slot, rest_touched, limit-begun, Unmoved, rest-unmoved, limit-unmoved}
+use Rattle.search.specs.Laws.Layout.Slots.{holds_by, holds-other, holds_alike, rest_of_slot, served_of_slot, rest_touched, limit-begun}
+use Rattle.search.specs.Laws.Layout.Slots.{Unmoved, rest-unmoved, limit-unmoved}
 use Rattle.search.specs.Laws.Layout.Picked.{slot_cases, rest_range, touched_row, touched_other}
 
 module _
@@ -196,8 +197,8 @@ module _
             (λ h. here j (cell.served_here j h))
             (λ k n h. old k j (ap (λ (v : ℕ). has v j) (sym (cell.served_other k n)) ∙ h)) k
 
-    arrays : Arrays energy limit r.amount
-    arrays = record { amounts = cell.amounts ∙ kept.arrays.amounts; energies = kept.arrays.energies; limits = kept.arrays.limits }
+    lengths : Lengths energy limit r.amount
+    lengths = record { amounts = cell.amounts ∙ kept.lengths.amounts; energies = kept.lengths.energies; limits = kept.lengths.limits }
 
     -- and is document 01's
 
@@ -256,7 +257,7 @@ module _
           (limit-row ∙ ap (λ (n : ℕ). n - 1) (sym (at_listed delivery_count limits pick.row in_deliveries))))
 
     cut_in_slot : CutOff energy limit s pick.row i r
-    cut_in_slot = record { kept = record { deliveries = deliveries; engines = engines; arrays = arrays }; sized = sized-after; state = state-after }
+    cut_in_slot = record { kept = record { deliveries = deliveries; engines = engines; lengths = lengths }; sized = sized-after; state = state-after }
 
   pub cut_off : CutOff energy limit s pick.row i r
   cut_off = go (slot_cases pick.slot)

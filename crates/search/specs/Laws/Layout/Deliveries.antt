@@ -76,7 +76,8 @@ module _ {energy limit : List ℕ} {left untouched : ℕ} {amount served row : L
       rw (limit-left limit left untouched served row p h) (record { least = omega arith; most = omega arith })
 
   -- the engines that serve it already, and one more, are LIMIT where its limit is 1
-  pub one_more : (p : ℕ) → has left p ≡ true → eqb (ones (served_at untouched served row p) + 1) (at limit p) ≡ eqb (limit_at limit left untouched served row p) 1
+  pub one_more : (p : ℕ) → has left p ≡ true
+      → eqb (ones (served_at untouched served row p) + 1) (at limit p) ≡ eqb (limit_at limit left untouched served row p) 1
   one_more p h = rw (limit-left limit left untouched served row p h) (one_left (ones (served_at untouched served row p)) (at limit p) (served-few p h))
 
   -- a delivery that is done has no rest
@@ -89,11 +90,3 @@ module _ {energy limit : List ℕ} {left untouched : ℕ} {amount served row : L
       free k =
           false_unless (holds served row k p) (λ g.
           true≢false (sym (rw (holds_row served row k p g) at (d.slot_left k (holds-used served row k p g))) ∙ h))
-
-  -- so a delivery with a rest is left
-  pub left_of_rest : (p : ℕ) → 0 < rest_at energy untouched amount served row p → has left p ≡ true
-  left_of_rest p k = go (has left p) refl
-    where
-      go : (b : Bool) → has left p ≡ b → has left p ≡ true
-      go true e = e
-      go false e = absurd (omega (arith, rest-done p e))

@@ -4,6 +4,8 @@ use Rattle.std.specs.Prelude.{◌≡◌, refl, ◌≢◌, ◌⊎◌, Bool, true,
 use Rattle.std.proofs.Math.Path.{sym, ap, ap₂}
 use Rattle.std.proofs.Common.{◌∙◌, subst, inl, inr, arith, length-set, get_or-set_same, get_or-set_other}
 use Rattle.std.proofs.Math.Bool.{cond}
+use Rattle.std.proofs.Math.Dec.{eqb}
+use borrow.Author.Tests.{eq-eqb, ne_eqb}
 use Prim.Native.Nat.{ℕ, ◌-◌, ◌^◌, ◌≤◌, ◌<◌}
 use Rattle.planning.specs.Bounds.{most_fuel}
 use Rattle.planning.proofs.Laws.Finite.Decisions.{equal_or_not, le-or-lt, at-or_else}
@@ -16,22 +18,12 @@ use Rattle.search.specs.declared.state.State.{State}
 use Rattle.search.specs.Layout.{holds, remaining_at, rest_of, limit_of, state_of, Deliveries, Engines, Kept, Sized, Picked, Laid}
 use Rattle.search.specs.Sets.{has}
 use Rattle.search.specs.Laws.Documents.{listed-set, same_document}
-use Rattle.search.specs.Laws.Members.{remaining_open}
+use Rattle.search.specs.Laws.Layout.Remaining.{remaining_open}
 use Rattle.search.specs.Laws.Sets.{clash, has-zero, has-without-same, has-without-other}
 use Rattle.search.specs.Laws.Layout.Serving.{open_inside}
 use Rattle.search.specs.Laws.Layout.Slots.{holds-used, holds_row, holds-inside, holds-free, holds-other, holds_alike}
 use Rattle.search.specs.Laws.Layout.Slots.{rest_of_none, rest_touched, limit-done, Unmoved, rest-unmoved, limit-unmoved}
 use Rattle.search.specs.Laws.Layout.Picked.{slot_cases, no_other, not_none, Touched, unused, touched_row, touched_other}
-
--- m is s after a rest was laid on engine i, and before the delivery is taken out
-pub record LaysOn (s : State) (rest i : ℕ) (m : State) : Type 0 where
-  pub same_left : m.left ≡ s.left
-  pub same_untouched : m.untouched ≡ s.untouched
-  pub is_amount : m.amount ≡ set s.amount i (at s.amount i - rest)
-  pub same_served : m.served ≡ s.served
-  pub same_row : m.row ≡ s.row
-  pub empty_open : at s.amount i - rest ≡ 0 → m.«open» ≡ s.«open» - 2 ^ i
-  pub rest_open : 0 < at s.amount i - rest → m.«open» ≡ s.«open»
 
 -- r is s after the rest of the delivery picked was laid on engine i
 pub record Lays (s : State) (pick : Pick) (i : ℕ) (r : State) : Type 0 where
@@ -41,8 +33,7 @@ pub record Lays (s : State) (pick : Pick) (i : ℕ) (r : State) : Type 0 where
   pub begun_served : (k : ℕ) → pick.slot ≡ Some k → r.served ≡ set s.served k 0
   pub fresh_served : pick.slot ≡ None → r.served ≡ s.served
   pub is_row : r.row ≡ s.row
-  pub empty_open : at s.amount i - pick.rest ≡ 0 → r.«open» ≡ s.«open» - 2 ^ i
-  pub rest_open : 0 < at s.amount i - pick.rest → r.«open» ≡ s.«open»
+  pub is_open : r.«open» ≡ cond (eqb (at s.amount i - pick.rest) 0) (s.«open» - 2 ^ i) s.«open»
 
 module _
     {energy limit : List ℕ}
@@ -131,13 +122,20 @@ module _
   not-engine : (k : ℕ) → 0 < at s.served k → k ≢ i
   not-engine k u e = omega (arith, ap (at s.served) e, kept.engines.free i engine)
 
+  -- the engine is closed where nothing remains of it
+  empty_open : at s.amount i - pick.rest ≡ 0 → r.«open» ≡ s.«open» - 2 ^ i
+  empty_open z = lays.is_open ∙ rw (eq-eqb (at s.amount i - pick.rest) 0 z)
+
+  rest_open : 0 < at s.amount i - pick.rest → r.«open» ≡ s.«open»
+  rest_open u = lays.is_open ∙ rw (ne_eqb (at s.amount i - pick.rest) 0 (λ e. omega arith))
+
   open_other : (j : ℕ) → j ≢ i → has r.«open» j ≡ has s.«open» j
   open_other j n = go (le-or-lt (at s.amount i - pick.rest) 0)
     where
       go : (at s.amount i - pick.rest ≤ 0) ⊎ (0 < at s.amount i - pick.rest) → has r.«open» j ≡ has s.«open» j
       go (inl z) =
-          ap (λ (m : ℕ). has m j) (lays.empty_open (omega arith)) ∙ has-without-other s.«open» i j engine n
-      go (inr u) = ap (λ (m : ℕ). has m j) (lays.rest_open u)
+          ap (λ (m : ℕ). has m j) (empty_open (omega arith)) ∙ has-without-other s.«open» i j engine n
+      go (inr u) = ap (λ (m : ℕ). has m j) (rest_open u)
 
   was_open : (j : ℕ) → has r.«open» j ≡ true → has s.«open» j ≡ true
   was_open = at-or_else (λ j. has r.«open» j ≡ true → has s.«open» j ≡ true) i (λ h. engine) (λ j n h. sym (open_other j n) ∙ h)
@@ -147,12 +145,12 @@ module _
   engine-after = go (le-or-lt (at s.amount i - pick.rest) 0)
     where
       closed : at s.amount i - pick.rest ≡ 0 → has r.«open» i ≡ false
-      closed z = ap (λ (m : ℕ). has m i) (lays.empty_open z) ∙ has-without-same s.«open» i engine
+      closed z = ap (λ (m : ℕ). has m i) (empty_open z) ∙ has-without-same s.«open» i engine
 
       go : (at s.amount i - pick.rest ≤ 0) ⊎ (0 < at s.amount i - pick.rest)
           → ((at s.amount i - pick.rest ≡ 0) × (has r.«open» i ≡ false)) ⊎ ((0 < at s.amount i - pick.rest) × (has r.«open» i ≡ true))
       go (inl z) = let e : at s.amount i - pick.rest ≡ 0 = omega arith in inl (e, closed e)
-      go (inr u) = inr (u, ap (λ (m : ℕ). has m i) (lays.rest_open u) ∙ engine)
+      go (inr u) = inr (u, ap (λ (m : ℕ). has m i) (rest_open u) ∙ engine)
 
   -- the state is kept
 
@@ -296,7 +294,7 @@ module _
               deliveries =
                   subst (λ (xs : List ℕ). Deliveries energy limit r.left r.untouched r.amount r.served xs) (sym lays.is_row) deliveries;
               engines = engines;
-              arrays = record { amounts = amount-length ∙ kept.arrays.amounts; energies = kept.arrays.energies; limits = kept.arrays.limits };
+              lengths = record { amounts = amount-length ∙ kept.lengths.amounts; energies = kept.lengths.energies; limits = kept.lengths.limits };
             };
         sized = sized-after;
         state = state-after;

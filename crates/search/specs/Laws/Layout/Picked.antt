@@ -34,17 +34,17 @@ pub record Touched (pick : Pick) (before after : ℕ) : Type 0 where
 
 -- an open engine has its place in the arrays
 pub engine-below : {energy limit : List ℕ} {s : State} → Kept energy limit s → (i : ℕ) → has s.«open» i ≡ true → i < most_engines
-engine-below kept i h = omega (arith, open_inside kept.engines i h, kept.arrays.amounts)
+engine-below kept i h = omega (arith, open_inside kept.engines i h, kept.lengths.amounts)
 
 module _ {energy limit : List ℕ} {s : State} {pick : Pick} (kept : Kept energy limit s) (picked : Picked energy s pick) where
   -- so have the delivery and its slot
   pub row_below : pick.row < most_deliveries
-  row_below = omega (arith, left-inside kept.deliveries pick.row picked.is_left, kept.arrays.energies)
+  row_below = omega (arith, left-inside kept.deliveries pick.row picked.is_left, kept.lengths.energies)
 
   pub slot_below : (k : ℕ) → pick.slot ≡ Some k → k < most_engines
   slot_below k m =
       let inside = holds-inside s.served s.row k pick.row (picked.is_slot.begun k m).1 in
-      omega (arith, kept.deliveries.serveds, kept.arrays.amounts)
+      omega (arith, kept.deliveries.serveds, kept.lengths.amounts)
 
   -- no other slot is in use for it, and none where it is untouched
   pub only_slot : (k : ℕ) → pick.slot ≢ Some k → holds s.served s.row k pick.row ≡ false

@@ -15,10 +15,11 @@ use Rattle.planning.specs.Search.{State as Document, Step, lays, cuts, can_lay, 
 use Rattle.planning.specs.Tables.{at}
 use Rattle.search.specs.declared.state.Pick.{Pick}
 use Rattle.search.specs.declared.state.State.{State}
-use Rattle.search.specs.declared.state.Task.{Task}
+use Rattle.search.specs.declared.Task.{Task}
 use Rattle.search.specs.Laws.Layout.Picked.{rest_range}
-use Rattle.search.specs.Laws.Members.{remaining_open, remaining-closed}
-use Rattle.search.specs.Layout.{remaining_at, rest_of, state_of, document, Kept, Sized, Room, Picked, Laid, CutOff}
+use Rattle.search.specs.Laws.Layout.Remaining.{remaining_open, remaining-closed}
+use Rattle.search.specs.Layout.{remaining_at, rest_of, state_of, document, Kept, Sized, Picked, Laid, CutOff}
+use Rattle.search.specs.Promises.{engines_of, deliveries_of, CountsInRange}
 use Rattle.search.specs.Sets.{has}
 
 -- D or F
@@ -83,10 +84,10 @@ module _ (energy limit : List ℕ) (s : State) (row i : ℕ) (r : State) where
 
 -- a delivery that is picked in a state of a search, with a table to write
 pub record Held (task : Task) (s : State) (pick : Pick) (lent : List ℕ) : Type 0 where
-  pub kept : Kept task.energy task.limit s
-  pub sized : Sized task.engines task.deliveries s.left s.«open»
-  pub picked : Picked task.energy s pick
-  pub room : Room task.engines task.deliveries (length lent)
+  pub kept : Kept task.energies.now task.limits.now s
+  pub sized : Sized (engines_of task) (deliveries_of task) s.left s.«open»
+  pub picked : Picked task.energies.now s pick
+  pub counts : CountsInRange task (length lent)
 
 module _ {task : Task} {s : State} {pick : Pick} {lent : List ℕ} (held : Held task s pick lent) where
   abbrev state : Document
@@ -96,21 +97,23 @@ module _ {task : Task} {s : State} {pick : Pick} {lent : List ℕ} (held : Held 
   open_amount : (i : ℕ) → has s.«open» i ≡ true → at state.remaining i ≡ at s.amount i
   unfolding state_of
   open_amount i h =
-      at_listed task.engines (λ k. remaining_at s.«open» s.amount k) i (held.sized.engine_set i h)
+      at_listed (engines_of task) (λ k. remaining_at s.«open» s.amount k) i (held.sized.engine_set i h)
       ∙ remaining_open s.«open» s.amount i h
 
   closed-amount : (i : ℕ) → has s.«open» i ≡ false → at state.remaining i ≡ 0
   unfolding state_of
-  closed-amount i h = go (le-or-lt task.engines i)
+  closed-amount i h = go (le-or-lt (engines_of task) i)
     where
-      go : (task.engines ≤ i) ⊎ (i < task.engines) → at state.remaining i ≡ 0
-      go (inl l) = get_or-eq_default state.remaining 0 (rw (length-listed task.engines (λ k. remaining_at s.«open» s.amount k)) l)
+      go : (engines_of task ≤ i) ⊎ (i < engines_of task) → at state.remaining i ≡ 0
+      go (inl l) = get_or-eq_default state.remaining 0 (rw (length-listed (engines_of task) (λ k. remaining_at s.«open» s.amount k)) l)
       go (inr l) =
-          at_listed task.engines (λ k. remaining_at s.«open» s.amount k) i l ∙ remaining-closed s.«open» s.amount i h
+          at_listed (engines_of task) (λ k. remaining_at s.«open» s.amount k) i l ∙ remaining-closed s.«open» s.amount i h
 
   picked-rest : at state.rest pick.row ≡ pick.rest
   unfolding state_of
-  picked-rest = at_listed task.deliveries (λ p. rest_of task.energy s p) pick.row (held.sized.delivery_set pick.row held.picked.is_left) ∙ sym held.picked.is_rest
+  picked-rest =
+      at_listed (deliveries_of task) (λ p. rest_of task.energies.now s p) pick.row (held.sized.delivery_set pick.row held.picked.is_left)
+      ∙ sym held.picked.is_rest
 
   -- the step tries an engine exactly where it is open and the code's test holds
   pub tried : (kind : Kind) (i : ℕ) → has s.«open» i ≡ true → Holds kind pick.rest (at s.amount i) → tries kind state pick.row i ≡ true

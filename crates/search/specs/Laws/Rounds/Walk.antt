@@ -9,7 +9,8 @@ use Rattle.std.proofs.Math.Nat.{sub-zero}
 use Rattle.planning.proofs.Laws.Search.Tries.{search_with_allowance, allowance_cases, none-not-stopped}
 use Rattle.planning.proofs.Laws.Soundness.Table.{cell-inside}
 use Rattle.planning.specs.Modes.{tries_of}
-use Rattle.planning.specs.Search.{State as Document, Result, found, none, stopped, with_piece, or_else, up_to, unlimited, permitted, permission, one_engine, each_engine, search_from}
+use Rattle.planning.specs.Search.{State as Document, Result, found, none, stopped, with_piece, or_else}
+use Rattle.planning.specs.Search.{up_to, unlimited, permitted, permission, one_engine, each_engine, search_from}
 use Rattle.planning.specs.Tables.{cell}
 use Rattle.planning.specs.declared.Outcome.TheVariants.{Found, None, Stopped}
 use Rattle.search.specs.declared.Ended.{Ended}

@@ -33,7 +33,7 @@ module _ {s : State} {pick : Pick} {i : ℕ} (can : Cuttable s pick i) where
   slot_inside = slot_below can.kept can.picked
 
   serving : (k : ℕ) → at s.served k < 2 ^ most_engines
-  serving k = serving-below can.kept.engines most_engines k (omega (arith, can.kept.deliveries.serveds, can.kept.arrays.amounts))
+  serving k = serving-below can.kept.engines most_engines k (omega (arith, can.kept.deliveries.serveds, can.kept.lengths.amounts))
 
 pub overflow_sub-self : goal.overflow_sub-self
 overflow_sub-self c = shifted-le engine_bits c.args.self.«open» c.args.i (omega (arith, engine_below c.requires)) c.requires.engine

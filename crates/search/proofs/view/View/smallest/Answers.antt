@@ -1,6 +1,6 @@
 -- A pass over the open engines, each of which is one of the arrays' own and has something remaining: the least of their amounts is the
 -- smallest remaining, and where there are none it is 0.
-use Rattle.std.proofs.Common.{rules, ◌≡◌, refl, true, List, ℕ, suc, [], ◌∷◌, ◌≤◌, ◌<◌, min, sym, ◌∙◌, arith}
+use Rattle.std.proofs.Common.{rules, ◌≡◌, refl, true, List, ℕ, [], ◌∷◌, ◌≤◌, ◌<◌, min, sym, ◌∙◌, arith}
 use Rattle.std.proofs.Common.{inl, Option, Some, None, unwrap_or, Ordering, Less, Equal, Greater}
 use Rattle.std.specs.List.{FoldsTo}
 use denote.Param.Members.{Mut}
@@ -14,24 +14,18 @@ use Rattle.planning.specs.Bounds.{most_engines}
 use Rattle.planning.specs.Tables.{at}
 use Rattle.search.specs.declared.members.Members.{Members}
 use Rattle.search.specs.Laws.Layout.Picked.{engine-below}
-use Rattle.search.specs.Laws.Passes.{Ahead, ahead-all, LeastSoFar, next-taken, smaller-taken, smaller-min, least_start, least-next, least-end}
+use Rattle.search.specs.Laws.Passes.{Ahead, ahead-all, ahead_after, LeastSoFar, next-taken, smaller-taken, smaller-min, least_start, least-next, least-end}
 use Rattle.search.specs.Members.{TakesLeast}
 use Rattle.search.specs.Sets.{has}
-use Rattle.search.proofs.choice.smallest.Goals as goal
-
--- what is left of a pass is ahead of it
-ahead_after : {all n : ℕ} (xs : List ℕ) (s t : Members) → Ahead all s.0 n → Yields TakesLeast s xs t → (m : ℕ) × Ahead all t.0 m
-ahead_after {n = n} [] s t a e = rw (← e) (n, a)
-ahead_after {all} (i ∷ xs) s t a (j, taken, rest) =
-    let more : Ahead all j.0 (suc i) = rw taken.without (next-taken a taken).ahead in ahead_after {n = suc i} xs j t more rest
+use Rattle.search.proofs.view.View.smallest.Goals as goal
 
 pub min-requires-clause-can : goal.min-requires-clause-can
 min-requires-clause-can c = (
   tt,
   record {
     at = λ xs t q x u before folds taken.
-        let start : Ahead c.args.s.now.«open» c.map.result.iter.0 0 = rw (c.map.ensures.source, c.from.ensures) (ahead-all _) in
-        let inside : x < most_engines = engine-below c.requires.2 x (next-taken (ahead_after {n = 0} xs _ t start before).1 taken).member in
+        let start : Ahead c.args.self.now.state.now.«open» c.map.result.iter.0 0 = rw (c.map.ensures.source, c.from.ensures) (ahead-all _) in
+        let inside : x < most_engines = engine-below c.args.self.now.kept x (next-taken (ahead_after {n = 0} xs _ t start before).1 taken).member in
         search (rules, inside);
   },
 )
@@ -73,9 +67,9 @@ module _ {F : Type 0} (g : Mut F (ℕ × Unit {0}) ℕ) (f : F) (opened : ℕ) (
 
 pub returns : goal.returns
 returns c =
-    let opened = c.args.s.now.«open» in
+    let opened = c.args.self.now.state.now.«open» in
     let from : c.map.result.iter.0 ≡ opened = rw (c.map.ensures.source, c.from.ensures) refl in
     let (set, none, least) =
-    least_of_pass _ _ opened c.args.s.now.amount (λ i m. (c.requires.2.engines.remains i m).least)
+    least_of_pass _ _ opened c.args.self.now.state.now.amount (λ i m. (c.args.self.now.kept.engines.remains i m).least)
     (λ i x h called. search rules) c.map.result c.map.ensures.closure from _ c.min.ensures.ran in λ engines inside.
     c.unwrap_or.ensures ∙ least-end _ _ set _ none least engines inside
