@@ -1,7 +1,9 @@
 -- What the public functions promise, in terms of RFC 4180's grammar. Each promise opens with the definition that the result equals, for all
 -- input; the other clauses say what that means.
 -- Assumes nothing.
-use Rattle.std.specs.Prelude.{◌≡◌, ◌↔◌, Bool, true, false, List, [], ◌∷◌, ◌++◌, ℕ, ◌+◌, ◌≤◌, ◌<◌, length, drop, Some, None, IsSome, Ok, Err}
+use Rattle.std.specs.Prelude.{◌≡◌, ◌↔◌, true, false, List, [], ◌∷◌, ◌++◌, ℕ, ◌+◌, ◌≤◌, ◌<◌, length, drop, Some, None, IsSome, Ok, Err}
+use Rattle.csv_fields.specs.declared.FieldEnd.{FieldEnd}
+use Rattle.csv_fields.specs.declared.FieldEnd.TheVariants.{Comma, RecordEnd, FileEnd}
 use Rattle.csv_fields.specs.declared.FieldForm.TheVariants.{Part, Doubled}
 use Rattle.csv_fields.specs.declared.FieldRead.{FieldRead}
 use Rattle.csv_fields.specs.declared.FieldSpan.{FieldSpan}
@@ -10,14 +12,14 @@ use Rattle.csv_fields.specs.declared.UndoError.TheVariants.{TooLong, Broken}
 use Rattle.rfc4180.specs.Bytes.{quote, comma, carriage_return, line_feed}
 use Rattle.rfc4180.specs.Grammar.{Field, Record}
 use Rattle.csv_fields.specs.Results.{Reading, Form, Undone}
-use Rattle.csv_fields.specs.Spans.{record_span, field_span, field_read, sound_field, broken_field, holds_quote, inside_of, form_of, undone, undone_on_exit}
+use Rattle.csv_fields.specs.Spans.{record_span, field_span, field_read, sound_field, broken_field, holds_quote, value_form, inside_of, form_of, undone, undone_on_exit}
 
--- what may stand behind a field in a file, how many bytes separate it from what follows, and whether that is a further field of its record:
--- the file ends, a comma follows, or CR LF
-pub data Separator : (behind : List ℕ) → (size : ℕ) → (more : Bool) → Type 0 where
-  file-ends : Separator [] 0 false
-  comma-follows : {rest : List ℕ} → Separator (comma ∷ rest) 1 true
-  record_ends : {rest : List ℕ} → Separator (carriage_return ∷ line_feed ∷ rest) 2 false
+-- what may stand behind a field in a file, how many bytes separate it from what follows, and what so ends the field: the file ends, a comma
+-- follows, and behind it a further field of the record, or CR LF
+pub data Separator : (behind : List ℕ) → (size : ℕ) → (ended_by : FieldEnd) → Type 0 where
+  file-ends : Separator [] 0 FileEnd
+  comma-follows : {rest : List ℕ} → Separator (comma ∷ rest) 1 Comma
+  record_ends : {rest : List ℕ} → Separator (carriage_return ∷ line_feed ∷ rest) 2 RecordEnd
 
 -- a field of the grammar that stands at a place of a file
 pub record FieldAt (file : List ℕ) (from : ℕ) : Type 0 where
@@ -25,28 +27,28 @@ pub record FieldAt (file : List ℕ) (from : ℕ) : Type 0 where
   pub value : List ℕ
   pub behind : List ℕ
   pub size : ℕ
-  pub more : Bool
+  pub ended_by : FieldEnd
   pub bytes : drop from file ≡ raw ++ behind
   pub field : Field raw value
-  pub follows : Separator behind size more
+  pub follows : Separator behind size ended_by
 
 -- a doubled quote stands inside a raw field
 abbrev pub DoubledQuote : (raw : List ℕ) → Type 0
 DoubledQuote raw = (front : List ℕ) × (back : List ℕ) × (inside_of raw ≡ front ++ quote ∷ quote ∷ back)
 
--- `field_read` finds a field exactly where one stands, and tells where it ends, where what follows begins, whether that is a further field,
--- and whether it holds a doubled quote. Only that stands for a quote, so its value has one exactly then. A field that begins in the file ends
+-- `field_read` finds a field exactly where one stands, and tells where it ends, where what follows begins, what ends it, and what
+-- form it has: whether it holds a doubled quote. Only that stands for a quote, so its value has one exactly then. A field that begins in the file ends
 -- in it, and what follows begins behind it.
 pub record ReadsField (file : List ℕ) (from : ℕ) (r : Reading) : Type 0 where
   pub equals : r ≡ field_read file from
   pub sound : IsSome r ↔ FieldAt file from
   pub told : (f : FieldAt file from)
-      → r ≡ sound_field (from + length f.raw) (from + length f.raw + f.size) f.more (holds_quote f.value)
-  pub doubled : (f : FieldAt file from) → (read : FieldRead) → r ≡ Some read → (read.doubled ≡ true) ↔ DoubledQuote f.raw
+      → r ≡ sound_field (from + length f.raw) (from + length f.raw + f.size) f.ended_by (value_form f.value)
+  pub doubled : (f : FieldAt file from) → (read : FieldRead) → r ≡ Some read → (read.form ≡ Doubled) ↔ DoubledQuote f.raw
   pub broken : (r ≡ broken_field) ↔ (FieldAt file from → ⊥)
   pub within : from ≤ length file → (read : FieldRead) → r ≡ Some read
       → (from ≤ read.end) × (read.end ≤ read.next) × (read.next ≤ length file)
-      × (read.more ≡ true → read.end < read.next)
+      × (read.ended_by ≡ Comma → read.end < read.next)
       × (from < length file → from < read.next)
 
 -- `record_at`: a record of the grammar is found up to the CR LF behind it, or up to the end of the file. Any record that begins in the file

@@ -4,8 +4,8 @@ ghost use Rattle.std.specs.Iterator.{YieldsFirst, item_count};
 ghost use Rattle.csv_fields.specs.Promises.{EndsField, HasForm, HandsPart, Undoes};
 ghost use Rattle.csv_fields.specs.Undoubling.{undoubled};
 
-use crate::reader::read_quoted;
-use crate::scans::{find_outside, holds, plain_end};
+use crate::reader::field_read;
+use crate::scans::find_outside;
 use crate::{FieldForm, FieldSpan, UndoError};
 
 // The raw field that begins at a place of a record's text: up to the next comma outside quotes.
@@ -19,24 +19,17 @@ pub fn field_at(text: &[u8], from: usize) -> FieldSpan
     }
 }
 
-// What a raw field is, if it is one of the grammar: in quotes it is read as in a file, and nothing may stand behind it; any other one is text
-// to its end.
+// What a raw field is, if it is one of the grammar: read as a file of its own, it ends with that file.
 pub fn form_of(raw: &[u8]) -> Option<FieldForm>
     ensures { HasForm raw.now result }
 {
-    if holds(raw, 0, 0x22) {
-        let read = read_quoted(raw, 1)?;
-        if read.end < raw.len() {
-            None
-        } else if read.doubled {
-            Some(FieldForm::Doubled)
-        } else {
-            Some(FieldForm::Part)
-        }
-    } else if plain_end::<false>(raw, 0) < raw.len() {
+    let Some(read) = field_read(raw, 0) else {
+        return None;
+    };
+    if read.end < raw.len() {
         None
     } else {
-        Some(FieldForm::Part)
+        Some(read.form)
     }
 }
 
@@ -67,7 +60,7 @@ fn left_behind(b: u8, behind: &[u8]) -> &[u8]
 #[derive(Drop)]
 struct Undoubled<'a>(&'a [u8]);
 
-impl<'a> Iterator for Undoubled<'a> {
+impl Iterator for Undoubled<'_> {
     type Item = u8;
 
     ghost next_gives = { YieldsFirst (λ s. undoubled s.0.now) };
@@ -96,6 +89,7 @@ fn copy_undoubled(inside: &[u8], out: &mut [u8])
     ensures { out.new
         ≡ undoubled inside.now ++ drop (length (undoubled inside.now)) out.old }
 {
+    // tried: `zip` with `out.iter_mut()`; of what is lent through an adapter of it nothing is known behind the loop
     for (k, b) in Undoubled(inside).enumerate() {
         out[k] = b;
     }

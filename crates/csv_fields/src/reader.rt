@@ -1,113 +1,81 @@
-// Reading a file field by field, each byte once.
-ghost use Rattle.std.specs.Prelude.{◌≡◌, true, false, cond, ◌+◌, ◌<◌, length, drop};
-ghost use Rattle.rfc4180.specs.Bytes.{line_feed};
-ghost use Rattle.csv_fields.specs.Reader.{begins_with, end_read, plain_read, quoted_read};
+// Reading a file field by field, each byte once. What reads a field that is not quoted is inlined into its two callers: files of many short
+// fields are read in little more than half the time so.
+ghost use Rattle.std.specs.Prelude.{◌≡◌, false, ◌+◌, length, drop};
+ghost use Rattle.csv_fields.specs.Reader.{end_read, plain_read, quoted_read};
 ghost use Rattle.csv_fields.specs.Promises.{ReadsField};
-ghost use Rattle.csv_fields.specs.Spans.{told_field, before_record_end, broken_field};
+ghost use Rattle.csv_fields.specs.declared.FieldForm.TheVariants.{Part};
+ghost use Rattle.csv_fields.specs.Scans.{Found};
 
-use crate::FieldRead;
 use crate::scans::{holds, is_plain, plain_end};
+use crate::{FieldEnd, FieldForm, FieldRead};
 use rfc4180::{ByteClass, class_of};
 
-// A field whose bytes end at a CR: a record end where LF stands behind it, and else broken.
-fn at_carriage_return(file: &[u8], end: usize, doubled: bool) -> Option<FieldRead>
-    requires { end < length file.now }
-    ensures { result ≡ cond (begins_with line_feed (drop (end + 1) file.now)) (before_record_end end doubled) broken_field }
+// A field whose bytes end before a place, where the file ends, or a comma or CR LF stands; anything else breaks it.
+#[tactic(auto, using(crate::specs::Laws::ReaderSteps::end_last, crate::specs::Laws::ReaderSteps::end_comma, crate::specs::Laws::ReaderSteps::end_crlf, crate::specs::Laws::ReaderSteps::end_cr, crate::specs::Laws::ReaderSteps::end_other))]
+#[inline(always)]
+fn ended(file: &[u8], end: usize, form: FieldForm) -> Option<FieldRead>
+    ensures { result ≡ end_read end form (drop end file.now) }
 {
-    if !holds(file, end + 1, 0x0A) {
-        return None;
-    }
+    let (ended_by, next) = match file.get(end) {
+        None => (FieldEnd::FileEnd, end),
+        Some(0x2C) => (FieldEnd::Comma, end + 1),
+        Some(0x0D) if holds(file, end + 1, 0x0A) => (FieldEnd::RecordEnd, end + 2),
+        Some(_) => return None,
+    };
     Some(FieldRead {
         end,
-        next: end + 2,
-        more: false,
-        doubled,
+        next,
+        ended_by,
+        form,
     })
 }
 
-// A field whose bytes end at a comma: a further one stands behind it.
-fn at_comma(end: usize, doubled: bool) -> FieldRead
-    requires { end < usize.MAX }
-    ensures { result ≡ told_field end (end + 1) true doubled }
+// Where the text ends that begins at a place. Many fields are empty, and are told by the first byte alone.
+#[tactic(auto, using(crate::specs::Laws::Scans::found_next, crate::specs::Laws::Scans::found_here))]
+#[inline(always)]
+fn text_end(file: &[u8], from: usize) -> usize
+    ensures { Found file.now false from (length file.now) result }
 {
-    FieldRead {
-        end,
-        next: end + 1,
-        more: true,
-        doubled,
+    match file.get(from) {
+        Some(&b) if is_plain::<false>(b) => plain_end::<false>(file, from + 1),
+        _ => from,
     }
 }
 
-// A field that ends with its file.
-fn at_end(end: usize, doubled: bool) -> FieldRead
-    ensures { result ≡ told_field end end false doubled }
-{
-    FieldRead {
-        end,
-        next: end,
-        more: false,
-        doubled,
-    }
-}
-
-// A quoted field whose closing quote stands before a place: a comma, CR LF or the end of the file follows; anything else breaks it.
-fn closed(file: &[u8], end: usize, doubled: bool) -> Option<FieldRead>
-    ensures { result ≡ end_read end doubled (drop end file.now) }
-{
-    if file.len() <= end {
-        return Some(at_end(end, doubled));
-    }
-    match class_of(file[end]) {
-        ByteClass::Comma => Some(at_comma(end, doubled)),
-        ByteClass::CarriageReturn => at_carriage_return(file, end, doubled),
-        _ => None,
-    }
-}
-
-// A field that is not quoted: each byte is decided by its class. Text goes on, and a run of it is passed at once.
+// A field that is not quoted: text up to what ends it.
+#[tactic(auto, using(crate::specs::Laws::ReaderSteps::plain_ends))]
+#[inline(always)]
 fn read_plain(file: &[u8], from: usize) -> Option<FieldRead>
     ensures { result ≡ plain_read from (drop from file.now) }
 {
-    let mut at = from;
-    // It goes on by runs of text, and not by one byte, so a `for` over the places does not fit.
-    while at < file.len() {
-        match class_of(file[at]) {
-            ByteClass::Text => at = plain_end::<false>(file, at + 1),
-            ByteClass::Comma => return Some(at_comma(at, false)),
-            ByteClass::CarriageReturn => return at_carriage_return(file, at, false),
-            ByteClass::Quote | ByteClass::LineFeed | ByteClass::Refused => return None,
-        }
-    }
-    Some(at_end(at, false))
+    ended(file, text_end(file, from), FieldForm::Part)
 }
 
 // A quoted field, from the place behind its opening quote on.
-pub(crate) fn read_quoted(file: &[u8], from: usize) -> Option<FieldRead>
-    ensures { result ≡ quoted_read false from (drop from file.now) }
+#[tactic(auto, using(crate::specs::Laws::ReaderSteps::inside_last, crate::specs::Laws::ReaderSteps::inside_pair, crate::specs::Laws::ReaderSteps::inside_closed, crate::specs::Laws::ReaderSteps::inside_refused, crate::specs::Laws::ReaderSteps::inside_on, crate::specs::Laws::ReaderSteps::inside_run))]
+fn read_quoted(file: &[u8], from: usize) -> Option<FieldRead>
+    ensures { result ≡ quoted_read Part from (drop from file.now) }
 {
     let mut at = from;
-    let mut doubled = false;
+    let mut form = FieldForm::Part;
     // It goes on by runs, by pairs of quotes and by bytes, so a `for` over the places does not fit.
-    while at < file.len() {
-        let b = file[at];
-        if b == 0x22 {
-            if !holds(file, at + 1, 0x22) {
-                return closed(file, at + 1, doubled);
+    while let Some(&b) = file.get(at) {
+        match class_of(b) {
+            ByteClass::Quote if holds(file, at + 1, 0x22) => {
+                form = FieldForm::Doubled;
+                at += 2;
             }
-            doubled = true;
-            at += 2;
-        } else if is_plain::<true>(b) {
-            at = plain_end::<true>(file, at + 1);
-        } else if class_of(b) == ByteClass::Refused {
-            return None;
-        } else {
-            at += 1;
+            ByteClass::Quote => return ended(file, at + 1, form),
+            ByteClass::Text | ByteClass::Comma => at = plain_end::<true>(file, at + 1),
+            ByteClass::CarriageReturn | ByteClass::LineFeed => at += 1,
+            ByteClass::Refused => return None,
         }
     }
     None
 }
 
 // The field that begins at a place of a file, if one of the grammar stands there.
+#[inline(always)]
 pub fn field_read(file: &[u8], from: usize) -> Option<FieldRead>
     ensures { ReadsField file.now from result }
 {

@@ -9,6 +9,7 @@ pub fn record_at(file: &[u8], from: usize) -> RecordSpan
     ensures { EndsRecord file.now from result }
 {
     let mut at = from;
+    // No `for`: it goes on behind the byte that each scan finds.
     loop {
         at = find_outside(file, at, 0x0D);
         if file.len() <= at {

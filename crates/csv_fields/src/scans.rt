@@ -5,8 +5,6 @@ ghost use Rattle.csv_fields.specs.Outside.{FoundOutside};
 ghost use Rattle.csv_fields.specs.Reader.{begins_with};
 ghost use Rattle.csv_fields.specs.Scans.{is_plain, Passed, Found};
 
-use std::cmp::max;
-
 // Whether a byte stands at a place: asked at five places, whose contracts speak of what the rest of the bytes begins with.
 pub(crate) fn holds(bytes: &[u8], at: usize, b: u8) -> bool
     ensures { result ≡ begins_with b (drop at bytes.now) }
@@ -33,41 +31,40 @@ fn all_plain<const QUOTED: bool>(bytes: &[u8]) -> bool
     plain
 }
 
-// The first place from a place on, before an end, whose byte is not plain, or that end.
-fn plain_before<const QUOTED: bool>(bytes: &[u8], from: usize, end: usize) -> usize
-    requires { end ≤ length bytes.now }
-    ensures { Found bytes.now QUOTED from end result }
+// How many plain bytes stand in front of the first that is not plain.
+fn plain_count<const QUOTED: bool>(bytes: &[u8]) -> usize
+    ensures { Found bytes.now QUOTED 0 (length bytes.now) result }
 {
-    for at in from..end {
-        if !is_plain::<QUOTED>(bytes[at]) {
-            return at;
+    // `position` was tried, and got no proof: a closure in a function with a const parameter is not stated.
+    for (i, &b) in bytes.iter().enumerate() {
+        if !is_plain::<QUOTED>(b) {
+            return i;
         }
     }
-    max(from, end)
+    bytes.len()
 }
 
-// The same up to the end of the bytes, eight at a time.
+// The first place from a place on whose byte is not plain, or the end, eight at a time.
 fn plain_far<const QUOTED: bool>(bytes: &[u8], from: usize) -> usize
     requires { from ≤ length bytes.now }
     ensures { Found bytes.now QUOTED from (length bytes.now) result }
 {
     let mut at = from;
-    // `chunks_exact(8).take_while(..).count()` was tried, and got no proof: a closure in a function with a const parameter is not stated.
+    // `chunks_exact(8).take_while(..).count()` was tried, and got no proof, for its closure.
     while 8 <= bytes.len() - at && all_plain::<QUOTED>(&bytes[at..at + 8]) {
         at += 8;
     }
-    plain_before::<QUOTED>(bytes, at, bytes.len())
+    at + plain_count::<QUOTED>(&bytes[at..])
 }
 
 // The same, where the first bytes are looked at one by one: most fields are short.
+#[tactic(auto, using(crate::specs::Laws::Scans::found_near))]
 pub(crate) fn plain_end<const QUOTED: bool>(bytes: &[u8], from: usize) -> usize
+    requires { from ≤ length bytes.now }
     ensures { Found bytes.now QUOTED from (length bytes.now) result }
 {
-    if bytes.len().saturating_sub(from) <= 8 {
-        return plain_before::<QUOTED>(bytes, from, bytes.len());
-    }
-    let end = from + 8;
-    let at = plain_before::<QUOTED>(bytes, from, end);
+    let end = bytes.len().min(from.saturating_add(8));
+    let at = from + plain_count::<QUOTED>(&bytes[from..end]);
     if at < end {
         at
     } else {

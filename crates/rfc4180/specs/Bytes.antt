@@ -23,7 +23,7 @@ line_feed = 0x0A
 unfoldable pub in_range : ℕ → ℕ → ℕ → Bool
 in_range low high b = leb low b && leb b high
 
--- TEXTDATA = %x20-21 / %x23-2B / %x2_d-7E (document 01: "Unquoted text is RFC 4180's TEXTDATA"), the four bytes with a name, and
+-- TEXTDATA = %x20-21 / %x23-2B / %x2D-7E (document 01: "Unquoted text is RFC 4180's TEXTDATA"), the four bytes with a name, and
 -- Refused for every other byte
 unfoldable pub class_of : ℕ → ByteClass
 unfolding in_range

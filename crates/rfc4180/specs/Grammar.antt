@@ -3,7 +3,7 @@
 use Rattle.std.specs.Prelude.{ℕ, ◌≤◌, List, [], ◌∷◌, ◌++◌}
 use Rattle.rfc4180.specs.Bytes.{quote, comma, carriage_return, line_feed}
 
--- TEXTDATA = %x20-21 / %x23-2B / %x2_d-7E
+-- TEXTDATA = %x20-21 / %x23-2B / %x2D-7E
 pub data TextData : ℕ → Type 0 where
   text_20_21 : {b : ℕ} → 0x20 ≤ b → b ≤ 0x21 → TextData b
   text_23_2B : {b : ℕ} → 0x23 ≤ b → b ≤ 0x2B → TextData b

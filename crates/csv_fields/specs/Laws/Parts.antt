@@ -10,7 +10,7 @@ use Rattle.rfc4180.specs.Grammar.{Escaped, escaped-end, escaped-text, escaped-co
 use Rattle.rfc4180.proofs.Laws.Classes.{text_no_quote}
 use Rattle.rfc4180.proofs.Laws.Fields.{field_complete}
 use Rattle.csv_fields.specs.Promises.{DoubledQuote}
-use Rattle.csv_fields.specs.Spans.{inside_of, holds_quote, doubled_in}
+use Rattle.csv_fields.specs.Spans.{inside_of, holds_quote, value_form, form_in}
 use Rattle.csv_fields.specs.Undoubling.{undoubled}
 use Rattle.csv_fields.specs.Laws.Undoubling.{escaped-undoubled, text_no_quotes, plain-undoubled, holds-undoubled}
 
@@ -77,6 +77,6 @@ pub field-part : {raw value : List ℕ} → Field raw value → holds_quote valu
 field-part {raw} {value} r e = sym (plain-undoubled (inside_of raw) (quote-inside r ∙ e)) ∙ field-undoubled r
 
 -- what is told of a field of the grammar
-pub doubled-told : {raw value : List ℕ} → Field raw value → doubled_in raw ≡ some (holds_quote value)
-unfolding doubled_in
-doubled-told r = rw (field_complete r)
+pub form-told : {raw value : List ℕ} → Field raw value → form_in raw ≡ some (value_form value)
+unfolding form_in
+form-told r = rw (field_complete r)

@@ -1,14 +1,16 @@
 -- The clauses of the promises follow from the definitions that the results equal. Assumes nothing.
 use Rattle.std.proofs.Math.Path.{◌≡◌, refl}
-use Rattle.std.proofs.Common.{sym, ap, ◌∙◌, subst, true≢false, arith, length-append, length-drop}
-use Rattle.std.specs.Prelude.{Bool, List, [], ◌∷◌, ◌++◌, ℕ, ◌+◌, ◌≤◌, ◌<◌, drop, Some, None, Ok, Err}
+use Rattle.std.proofs.Common.{inl, inr, sym, ap, ◌∙◌, subst, true≢false, arith, length-append, length-drop}
+use Rattle.std.specs.Prelude.{◌↔◌, Bool, List, [], ◌∷◌, ◌++◌, ℕ, ◌+◌, ◌≤◌, ◌<◌, drop, Some, None, Ok, Err}
 use Rattle.std.proofs.Math.Bool.{true, false, cond}
 use Rattle.std.proofs.lemmas.Bool.{false≢true}
 use Rattle.std.proofs.lemmas.Option.{none-some}
 use Rattle.std.proofs.Math.Option.{Option, none, some, none-ne-some}
 use Rattle.std.proofs.Math.Dec.{leb}
 use Rattle.std.proofs.Math.ListN.{length}
-use borrow.Author.Tests.{le-leb, lt-leb, leb-true}
+use borrow.Author.Tests.{le-leb, lt-leb, leb-true, le-ltb, lt-ltb}
+use Rattle.csv_fields.specs.declared.FieldEnd.{FieldEnd}
+use Rattle.csv_fields.specs.declared.FieldEnd.TheVariants.{Comma}
 use Rattle.csv_fields.specs.declared.FieldForm.TheVariants.{Part, Doubled}
 use Rattle.csv_fields.specs.declared.FieldRead.{FieldRead}
 use Rattle.csv_fields.specs.declared.FieldSpan.{FieldSpan}
@@ -21,10 +23,13 @@ use Rattle.rfc4180.proofs.Laws.Fields.{field_complete, field-sound, field_unique
 use Rattle.rfc4180.proofs.Laws.Quotes.{NonEmpty, raw_non_empty}
 use Rattle.rfc4180.proofs.Laws.Records.{first_record_ended, first_record_last, raw-last, raw-more}
 use Rattle.csv_fields.specs.Results.{Reading, Form, Undone}
-use Rattle.csv_fields.specs.Spans.{span_from, record_span, field_from, field_span, field_read, told_field, holds_quote, doubled_in, inside_of, form_by, form_of, undone_by, undone, undone_on_exit_by, undone_on_exit}
-use Rattle.csv_fields.specs.Promises.{Separator, file-ends, comma-follows, record_ends, FieldAt, ReadsField, EndsRecord, EndsField, HasForm, HandsPart, Undoes}
-use Rattle.csv_fields.specs.Laws.FieldReads.{sound-stands, stands_read}
-use Rattle.csv_fields.specs.Laws.Parts.{field-part, doubled-told, doubled-quote}
+use Rattle.csv_fields.specs.Spans.{span_from, record_span, field_from, field_span, field_read, told_field, holds_quote, value_form, form_in}
+use Rattle.csv_fields.specs.Spans.{inside_of, form_by, form_told, form_of, undone_by, undone, undone_on_exit_by, undone_on_exit}
+use Rattle.csv_fields.specs.Promises.{Separator, file-ends, comma-follows, record_ends, FieldAt, DoubledQuote}
+use Rattle.csv_fields.specs.Promises.{ReadsField, EndsRecord, EndsField, HasForm, HandsPart, Undoes}
+use Rattle.csv_fields.specs.Laws.FieldReads.{is_over, sound-stands, stands_read}
+use Rattle.csv_fields.specs.Laws.Forms.{form-read}
+use Rattle.csv_fields.specs.Laws.Parts.{field-part, form-told, doubled-quote}
 use Rattle.csv_fields.specs.Laws.RecordSpans.{record_stands}
 use Rattle.csv_fields.specs.Laws.Spans.{field-within}
 
@@ -32,21 +37,21 @@ use Rattle.csv_fields.specs.Laws.Spans.{field-within}
 
 -- of a field that stands there all is told that is read
 told_is : (file : List ℕ) (from : ℕ) (f : FieldAt file from) {read : FieldRead} → field_read file from ≡ Some read
-    → told_field (from + length f.raw) (from + length f.raw + f.size) f.more (holds_quote f.value) ≡ read
+    → told_field (from + length f.raw) (from + length f.raw + f.size) f.ended_by (value_form f.value) ≡ read
 told_is file from f {read} e =
     let told = sym (stands_read file from f) ∙ e in
     cc
 
 module _ (file : List ℕ) (from : ℕ) (inside : from ≤ length file) where
-  within_by : {rest : List ℕ} {size : ℕ} {more : Bool} (raw : List ℕ) → Separator rest size more → drop from file ≡ raw ++ rest
+  within_by : {rest : List ℕ} {size : ℕ} {ended_by : FieldEnd} (raw : List ℕ) → Separator rest size ended_by → drop from file ≡ raw ++ rest
       → let end = from + length raw in
       (from ≤ end) × (end ≤ end + size) × (end + size ≤ length file)
-      × (more ≡ true → end < end + size)
+      × (ended_by ≡ Comma → end < end + size)
       × (from < length file → from < end + size)
   within_by raw file-ends e =
       let total = ap length e ∙ length-append raw [] in
       let left = length-drop from file in
-      (omega arith, omega arith, omega arith, λ m. absurd (false≢true m), λ h. omega arith)
+      (omega arith, omega arith, omega arith, λ goes. absurd (is_over (inr refl) goes), λ h. omega arith)
   within_by raw (comma-follows {rest = rest}) e =
       let total = ap length e ∙ length-append raw (comma ∷ rest) in
       let left = length-drop from file in
@@ -54,15 +59,26 @@ module _ (file : List ℕ) (from : ℕ) (inside : from ≤ length file) where
   within_by raw (record_ends {rest = rest}) e =
       let total = ap length e ∙ length-append raw (carriage_return ∷ line_feed ∷ rest) in
       let left = length-drop from file in
-      (omega arith, omega arith, omega arith, λ m. absurd (false≢true m), λ h. omega arith)
+      (omega arith, omega arith, omega arith, λ goes. absurd (is_over (inl refl) goes), λ h. omega arith)
 
   read-within : (read : FieldRead) → field_read file from ≡ Some read
       → (from ≤ read.end) × (read.end ≤ read.next) × (read.next ≤ length file)
-      × (read.more ≡ true → read.end < read.next)
+      × (read.ended_by ≡ Comma → read.end < read.next)
       × (from < length file → from < read.next)
   read-within read sound =
       let f = sound-stands file from sound in
       rw (← told_is file from f sound) (within_by f.raw f.follows f.bytes)
+
+form_is-doubled : (has_quote : Bool) → (form_by has_quote ≡ Doubled) ↔ (has_quote ≡ true)
+unfolding form_by
+form_is-doubled true = (λ e. refl, λ e. refl)
+form_is-doubled false = (λ e. let z : ◌≡◌ {A = ℕ} 0 1 = cc in absurd (omega arith), λ e. absurd (false≢true e))
+
+form-doubled : {raw value : List ℕ} → Field raw value → (value_form value ≡ Doubled) ↔ DoubledQuote raw
+form-doubled {value = value} r =
+    let is = form_is-doubled (holds_quote value) in
+    let quotes = doubled-quote r in
+    (λ e. quotes.0 (is.0 e), λ d. is.1 (quotes.1 d))
 
 reads_by : (file : List ℕ) (from : ℕ) (r : Reading) → field_read file from ≡ r → ReadsField file from r
 reads_by file from None e =
@@ -81,7 +97,7 @@ reads_by file from (Some read) e =
       equals = sym e;
       sound = (λ some. f, λ f. refl);
       told = λ f. sym e ∙ stands_read file from f;
-      doubled = λ f other some. rw (← told_is file from f (e ∙ some)) (doubled-quote f.field);
+      doubled = λ f other some. rw (← told_is file from f (e ∙ some)) (form-doubled f.field);
       broken = (λ none. absurd (none-some _ (sym none)), λ never. absurd (never f));
       within = λ inside other some. read-within file from inside other (e ∙ some);
     }
@@ -138,7 +154,7 @@ module _ (raw : List ℕ) where
   one_value r s p q = true≢false (sym p ∙ ap holds_quote (field_unique r s) ∙ q)
 
   none_form : field_value raw ≡ none → HasForm raw None
-  unfolding form_of form_by doubled_in
+  unfolding form_of form_told form_in
   none_form e =
       record {
         equals = rw e;
@@ -147,18 +163,18 @@ module _ (raw : List ℕ) where
         doubled = (λ p. let z : ◌≡◌ {A = ℕ} 0 1 = cc in absurd (omega arith), λ (value, r, q). absurd (no_field e value r));
       }
 
-  field_form : {value : List ℕ} (t : Bool) → holds_quote value ≡ t → Field raw value → HasForm raw (form_by (some t))
-  unfolding form_of form_by
+  field_form : {value : List ℕ} (t : Bool) → holds_quote value ≡ t → Field raw value → HasForm raw (Some (form_by t))
+  unfolding form_of form_told form_by
   field_form {value} true p r =
       record {
-        equals = rw (doubled-told r, p);
+        equals = rw (form-told r, p);
         broken = (λ q. let z : ◌≡◌ {A = ℕ} 0 1 = cc in absurd (omega arith), λ never. absurd (never value r));
         part = (λ q. let z : ◌≡◌ {A = ℕ} 0 1 = cc in absurd (omega arith), λ (other, s, q). absurd (one_value r s p q));
         doubled = (λ q. (value, r, p), λ q. refl);
       }
   field_form {value} false p r =
       record {
-        equals = rw (doubled-told r, p);
+        equals = rw (form-told r, p);
         broken = (λ q. let z : ◌≡◌ {A = ℕ} 0 1 = cc in absurd (omega arith), λ never. absurd (never value r));
         part = (λ q. (value, r, p), λ q. refl);
         doubled = (λ q. let z : ◌≡◌ {A = ℕ} 0 1 = cc in absurd (omega arith), λ (other, s, q). absurd (one_value s r q p));
@@ -170,6 +186,18 @@ module _ (raw : List ℕ) where
 
 pub has_form : (raw : List ℕ) {r : Form} → r ≡ form_of raw → HasForm raw r
 has_form raw e = subst (HasForm raw) (sym e) (has_form_by raw (field_value raw) refl)
+
+-- what is read of it as a file of its own says which it is
+module _ (raw : List ℕ) where
+  pub none_read : ReadsField raw 0 None → HasForm raw None
+  none_read reads = has_form raw (sym (form-read raw ∙ rw (← reads.equals)))
+
+  module _ (read : FieldRead) (reads : ReadsField raw 0 (Some read)) where
+    pub shorter_read : read.end < length raw → HasForm raw None
+    shorter_read h = has_form raw (sym (form-read raw ∙ rw (← reads.equals, lt-ltb read.end (length raw) h)))
+
+    pub whole_read : length raw ≤ read.end → HasForm raw (Some read.form)
+    whole_read h = has_form raw (sym (form-read raw ∙ rw (← reads.equals, le-ltb read.end (length raw) h)))
 
 -- a raw field that is not broken is a field of the grammar
 pub formed : (raw : List ℕ) {r : Form} → HasForm raw r → (r ≡ None → ⊥) → (value : List ℕ) × Field raw value

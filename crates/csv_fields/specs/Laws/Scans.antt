@@ -71,6 +71,16 @@ module _ (bytes : List ℕ) (quoted : Bool) where
       let further = found.behind in
       record { behind = omega arith; passed = both-passed from mid r passed found.passed; stops = found.stops }
 
+  -- or behind a first one that is plain
+  pub found_next : (from end r : ℕ) → from < length bytes → is_plain quoted (class_of (get_or bytes from 0)) ≡ true
+      → Found bytes quoted (from + 1) end r → Found bytes quoted from end r
+  found_next from end r h plain found =
+      found-behind from (from + 1) end r (omega arith) (one-passed from from (none_passed from) h plain) found
+
+  -- it stops at once where that is not
+  pub found_here : (from end : ℕ) → (from < end → is_plain quoted (class_of (get_or bytes from 0)) ≡ false) → Found bytes quoted from end from
+  found_here from end other = record { behind = omega arith; passed = none_passed from; stops = other }
+
 -- behind bytes that are passed, all bytes of a part are plain
 pub part_passed : (bytes : List ℕ) (quoted : Bool) (from at to : ℕ) → Passed bytes quoted from at → at ≤ to → to ≤ length bytes
     → let part = take (to - at) (drop at bytes) in
@@ -91,6 +101,54 @@ part_passed bytes quoted from at to before h room passed i lo hi = go (ltb i at)
         let same : get_or part (i - at) 0 ≡ get_or bytes i 0 =
         get_or-take (to - at) (drop at bytes) (i - at) 0 (omega arith) ∙ get_or-drop at bytes (i - at) 0 ∙ rw place in
         (omega arith, rw (← same) (passed (i - at) (omega arith) (omega (arith, whole))).1)
+
+module _ (bytes : List ℕ) (quoted : Bool) where
+  -- what is found in a part stands behind the part's place
+  found-part : (at end r : ℕ) → at ≤ end → end ≤ length bytes
+      → let part = take (end - at) (drop at bytes) in
+      Found part quoted 0 (length part) r → Found bytes quoted at end (at + r)
+  found-part at end r h room found =
+      record {
+        behind = omega arith;
+        passed = λ i lo hi. let place : at + (i - at) ≡ i = omega arith in rw place at (here (i - at) (found.passed (i - at) (omega arith) (omega arith)));
+        stops = λ inside. rw (← same r (omega arith)) (found.stops (omega (arith, whole)));
+      }
+    where
+      part : List ℕ
+      part = take (end - at) (drop at bytes)
+
+      whole : length part ≡ end - at
+      whole = length-take-le (end - at) (drop at bytes) (rw (length-drop at bytes) (omega arith))
+
+      same : (i : ℕ) → i < end - at → get_or part i 0 ≡ get_or bytes (at + i) 0
+      same i inside = get_or-take (end - at) (drop at bytes) i 0 inside ∙ get_or-drop at bytes i 0
+
+      here : (i : ℕ) → (i < length part) × (is_plain quoted (class_of (get_or part i 0)) ≡ true)
+          → (at + i < length bytes) × (is_plain quoted (class_of (get_or bytes (at + i) 0)) ≡ true)
+      here i (inside, plain) = (omega (arith, whole), rw (← same i (omega (arith, whole))) plain)
+
+  module _ (from end r : ℕ) (h : from ≤ end) (room : end ≤ length bytes) where
+    -- a byte that is not plain stands in a part
+    pub found_near : Found (take (end - from) (drop from bytes)) quoted 0 (length (take (end - from) (drop from bytes))) r
+        → from + r < end → Found bytes quoted from (length bytes) (from + r)
+    found_near found inside =
+        let part = found-part from end r h room found in
+        record { behind = part.behind; passed = part.passed; stops = λ l. part.stops inside }
+
+    -- or all of it is plain
+    pub found_far : (s : ℕ) → Found (take (end - from) (drop from bytes)) quoted 0 (length (take (end - from) (drop from bytes))) r
+        → end ≤ from + r → Found bytes quoted end (length bytes) s → Found bytes quoted from (length bytes) s
+    found_far s found over far =
+        let part = found-part from end r h room found in
+        let passed : Passed bytes quoted from end = λ i lo hi. part.passed i lo (omega arith) in
+        found-behind bytes quoted from end (length bytes) s h passed far
+
+  -- what is left is looked at to the end
+  pub found_rest : (from at r : ℕ) → from ≤ at → at ≤ length bytes → Passed bytes quoted from at
+      → Found (take (length bytes - at) (drop at bytes)) quoted 0 (length (take (length bytes - at) (drop at bytes))) r
+      → Found bytes quoted from (length bytes) (at + r)
+  found_rest from at r h room passed found =
+      found-behind bytes quoted from at (length bytes) (at + r) h passed (found-part at (length bytes) r room (omega arith) found)
 
 -- what no byte passed changes is the same before and behind them all
 stepwise : {X : Type 0} (f : ℕ → X) (from n : ℕ) → ((i : ℕ) → from ≤ i → i < from + n → f i ≡ f (i + 1)) → f from ≡ f (from + n)

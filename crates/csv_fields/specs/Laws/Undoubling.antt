@@ -7,7 +7,8 @@ use Rattle.std.proofs.Math.ListN.{length, take, drop}
 use Rattle.std.proofs.Math.Seq.{take-length}
 use borrow.Author.Tests.{ne_eqb}
 use Rattle.rfc4180.specs.Bytes.{quote, comma, carriage_return, line_feed}
-use Rattle.rfc4180.specs.Grammar.{NonEscaped, non_escaped-end, non_escaped-text, Escaped, escaped-end, escaped-text, escaped-comma, escaped_cr, escaped_lf, escaped-quote}
+use Rattle.rfc4180.specs.Grammar.{NonEscaped, non_escaped-end, non_escaped-text, Escaped, escaped-end, escaped-text, escaped-comma, escaped_cr}
+use Rattle.rfc4180.specs.Grammar.{escaped_lf, escaped-quote}
 use Rattle.rfc4180.proofs.Laws.Classes.{text_no_quote}
 use Rattle.csv_fields.specs.Spans.{holds_quote}
 use Rattle.csv_fields.specs.Undoubling.{undoubled}

@@ -9,7 +9,8 @@ use mathlib.Core.List.{List, [], ◌∷◌, ◌++◌}
 use Rattle.rfc4180.specs.declared.ByteClass.{ByteClass}
 use Rattle.rfc4180.specs.declared.ByteClass.TheVariants.{Text, Quote, Comma, CarriageReturn, LineFeed, Refused}
 use Rattle.rfc4180.specs.Bytes.{quote, comma, carriage_return, line_feed, class_of}
-use Rattle.rfc4180.specs.Grammar.{TextData, NonEscaped, non_escaped-end, non_escaped-text, Escaped, escaped-end, escaped-text, escaped-comma, escaped_cr, escaped_lf, escaped-quote, Field, field-escaped, field_non_escaped}
+use Rattle.rfc4180.specs.Grammar.{TextData, NonEscaped, non_escaped-end, non_escaped-text, Escaped, escaped-end, escaped-text, escaped-comma}
+use Rattle.rfc4180.specs.Grammar.{escaped_cr, escaped_lf, escaped-quote, Field, field-escaped, field_non_escaped}
 use Rattle.rfc4180.specs.Fields.{is_text, all_text, escaped_byte, escaped_value, field_value}
 use Rattle.rfc4180.proofs.Laws.Classes.{class_means, text_class, text_no_quote}
 
@@ -86,7 +87,9 @@ module _ (b c : ℕ) (rest value : List ℕ) (one : (w : List ℕ) → escaped_v
     (two : (w : List ℕ) → escaped_value rest ≡ some w → Closed rest w) where
   kept : ((inside w : List ℕ) → Escaped inside w → Escaped (b ∷ inside) (b ∷ w))
       → map (λ (v : List ℕ). b ∷ v) (escaped_value (c ∷ rest)) ≡ some value → Closed (b ∷ c ∷ rest) value
-  kept itself e = map-some (Closed (b ∷ c ∷ rest)) (λ (v : List ℕ). b ∷ v) (escaped_value (c ∷ rest)) (λ w p. itself_closed b (c ∷ rest) itself w (one w p)) value e
+  kept itself e =
+      map-some (Closed (b ∷ c ∷ rest)) (λ (v : List ℕ). b ∷ v) (escaped_value (c ∷ rest))
+      (λ w p. itself_closed b (c ∷ rest) itself w (one w p)) value e
 
   quoted : b ≡ quote → (t : Bool) → eqb c quote ≡ t → (itself : Option (List ℕ))
       → escaped_byte Quote t itself (map (λ (v : List ℕ). quote ∷ v) (escaped_value rest)) ≡ some value → Closed (b ∷ c ∷ rest) value

@@ -33,7 +33,8 @@ end-bytes outside [] back e = absurd (none-ne-some _ e)
 end-bytes outside (b ∷ []) back e = absurd (none-ne-some _ e)
 end-bytes outside (b ∷ c ∷ rest) back e = behind-end outside b c rest back (outside && eqb b carriage_return && eqb c line_feed) refl e
 
-ended-bytes : (o : Option (List ℕ)) (b : ℕ) (found : FirstRecord) (rest : List ℕ) → ((back : List ℕ) → o ≡ some back → b ∷ rest ≡ carriage_return ∷ line_feed ∷ back)
+ended-bytes : (o : Option (List ℕ)) (b : ℕ) (found : FirstRecord) (rest : List ℕ)
+    → ((back : List ℕ) → o ≡ some back → b ∷ rest ≡ carriage_return ∷ line_feed ∷ back)
     → rest ≡ found.text ++ ending found.behind → b ∷ rest ≡ (ended_or o b found).text ++ ending (ended_or o b found).behind
 unfolding ended_or
 ended-bytes none b found rest ends whole = ap (λ (l : List ℕ). b ∷ l) whole

@@ -3,7 +3,8 @@
 use Rattle.std.specs.Prelude.{◌≡◌, refl, ℕ, Bool, true, false, ◌&&◌, List, [], ◌∷◌, ◌++◌, eqb}
 use Rattle.std.proofs.Common.{ap, ◌∙◌}
 use Rattle.rfc4180.specs.Bytes.{comma, carriage_return}
-use Rattle.rfc4180.specs.Grammar.{TextData, NonEscaped, non_escaped-end, non_escaped-text, Escaped, escaped-end, escaped-text, escaped-comma, escaped_cr, escaped_lf, escaped-quote, Field, field-escaped, field_non_escaped}
+use Rattle.rfc4180.specs.Grammar.{TextData, NonEscaped, non_escaped-end, non_escaped-text, Escaped, escaped-end, escaped-text, escaped-comma}
+use Rattle.rfc4180.specs.Grammar.{escaped_cr, escaped_lf, escaped-quote, Field, field-escaped, field_non_escaped}
 use Rattle.rfc4180.specs.Records.{FirstRecord, outside_after, behind_end, first_from}
 use Rattle.rfc4180.specs.Fields.{cut_or, raw_fields_from}
 use Rattle.rfc4180.proofs.Laws.Classes.{text_no_quote, text_no_comma, text_no_cr}

@@ -65,7 +65,8 @@ pub joined-raw : (outside : Bool) (text : List ℕ) → joined (raw_fields_from 
 unfolding raw_fields_from joined
 joined-raw outside [] = refl
 joined-raw outside (b ∷ rest) =
-    cut-joined (outside && eqb b comma) b _ (raw_non_empty (outside_after outside b) rest) (λ e. eqb-true b comma ((and-eq-true_iff outside (eqb b comma)).0 e).1)
+    cut-joined (outside && eqb b comma) b _ (raw_non_empty (outside_after outside b) rest)
+    (λ e. eqb-true b comma ((and-eq-true_iff outside (eqb b comma)).0 e).1)
     ∙ ap (λ (l : List ℕ). b ∷ l) (joined-raw (outside_after outside b) rest)
 
 -- a property of every list that `and_then` gives

@@ -6,14 +6,18 @@ use Rattle.std.proofs.Math.Bool.{and-eq-true_iff}
 use Rattle.rfc4180.specs.declared.ByteClass.{ByteClass}
 use Rattle.rfc4180.specs.declared.ByteClass.TheVariants.{Text, Quote, Comma, CarriageReturn, LineFeed, Refused}
 use Rattle.rfc4180.specs.Bytes.{quote, carriage_return, line_feed, class_of}
-use Rattle.rfc4180.specs.Grammar.{NonEscaped, non_escaped-end, non_escaped-text, Escaped, escaped-end, escaped-text, escaped-comma, escaped_cr, escaped_lf, escaped-quote, Field, field-escaped, field_non_escaped, Record, record_last, record_more, File, file-ended, file-more}
-use Rattle.rfc4180.specs.Writer.{asks_for_quotes, needs_quotes, doubled, written, written_record, written_file, is_allowed, writable, writable_record, writable_file, quote_count}
+use Rattle.rfc4180.specs.Grammar.{NonEscaped, non_escaped-end, non_escaped-text, Escaped, escaped-end, escaped-text, escaped-comma, escaped_cr}
+use Rattle.rfc4180.specs.Grammar.{escaped_lf, escaped-quote, Field, field-escaped, field_non_escaped, Record, record_last, record_more, File}
+use Rattle.rfc4180.specs.Grammar.{file-ended, file-more}
+use Rattle.rfc4180.specs.Writer.{asks_for_quotes, needs_quotes, doubled, written, written_record, written_file, is_allowed, writable, writable_record}
+use Rattle.rfc4180.specs.Writer.{writable_file, quote_count}
 use Rattle.rfc4180.proofs.Laws.Classes.{class_means, text_no_quote}
 use Rattle.rfc4180.proofs.Laws.Quotes.{NonEmpty}
 
 -- ---- fields
 
-byte_doubled : (b : ℕ) (rest : List ℕ) (k : ByteClass) → class_of b ≡ k → is_allowed k ≡ true → Escaped (doubled rest) rest → Escaped (doubled (b ∷ rest)) (b ∷ rest)
+byte_doubled : (b : ℕ) (rest : List ℕ) (k : ByteClass) → class_of b ≡ k → is_allowed k ≡ true → Escaped (doubled rest) rest
+    → Escaped (doubled (b ∷ rest)) (b ∷ rest)
 unfolding is_allowed doubled
 byte_doubled b rest Text p e r = rw (text_no_quote (class_means b p)) (escaped-text (class_means b p) r)
 byte_doubled b rest Quote p e r = rw (class_means b p) (escaped-quote r)

@@ -1,10 +1,10 @@
--- The field read from the place behind its opening quote is the one read from here. The measure is what is left. Assumes nothing.
-use Rattle.std.proofs.Common.{◌≡◌, ◌-◌, false, length, drop}
-use Rattle.csv_fields.specs.Reader.{quoted_read}
+-- What is read from the place behind the opening quote on is read from here on. The measure is what is left. Assumes nothing.
+use Rattle.std.proofs.Common.{◌-◌, length}
+use Rattle.csv_fields.specs.Laws.ReaderSteps.{ReadsOn}
 use Rattle.csv_fields.proofs.reader.read_quoted.Given as goal
 
-abbrev pub invariant-loop-at : goal.invariant-loop-at
-invariant-loop-at l = quoted_read false l.from (drop l.from l.file) ≡ quoted_read l.doubled l.at (drop l.at l.file)
+abbrev pub invariant-loop-b : goal.invariant-loop-b
+invariant-loop-b l = ReadsOn l.file l.from l.form l.at
 
-abbrev pub decreases-loop-at : goal.decreases-loop-at
-decreases-loop-at l = length l.file - l.at
+abbrev pub decreases-loop-b : goal.decreases-loop-b
+decreases-loop-b l = length l.file - l.at
