@@ -8,7 +8,7 @@ ghost use Rattle.planfile.specs.Promises.{FilePromised};
 ghost use Rattle.filecall.specs.Calls.{call_with};
 
 use planfile::LONGEST_PRINT;
-use planning::{Answer, MOST_CELLS, MOST_ENGINES, Refusal};
+use planning::{Answer, Fault, Refusal};
 pub use print::write_refusal;
 
 // Plans the file; lent a piece table of MOST_CELLS numbers, a spare list of MOST_ENGINES, and an output for the print. Answers with the print's length.
@@ -22,9 +22,20 @@ pub fn plan_file(
         (call_with file.now table.old spare.old output.old)
         result table.new spare.new output.new }
 {
-    if LONGEST_PRINT <= output.len() || table.len() != MOST_CELLS || spare.len() != MOST_ENGINES {
-        call::in_place(file, table, spare, output)
+    // Not by `?`: tried, and Rattle makes no proof behind it for a plan that holds names.
+    let plan = match planreader::read(file) {
+        Ok(plan) => plan,
+        Err(refusal) => return Err(refusal),
+    };
+    let Some(table) = table.as_mut_array() else {
+        return Err(Fault::Space.at(0));
+    };
+    let Some(spare) = spare.as_mut_array() else {
+        return Err(Fault::Space.at(0));
+    };
+    if LONGEST_PRINT <= output.len() {
+        Ok(call::in_place(&plan, table, spare, output))
     } else {
-        call::aside(file, table, spare, output)
+        call::aside(&plan, table, spare, output)
     }
 }

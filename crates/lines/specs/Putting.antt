@@ -1,9 +1,10 @@
 -- Texts put into an output one behind the other: what the functions that programs print by return and leave.
 -- Assumes nothing.
-use Rattle.std.specs.Prelude.{◌≡◌, Bool, true, false, cond, List, [], ◌∷◌, ◌++◌, ℕ, ◌+◌, ◌-◌, leb, length, take, drop, Result, Ok, Err}
+use Rattle.std.specs.Prelude.{◌≡◌, Bool, true, false, cond, List, [], ◌∷◌, ◌++◌, ℕ, ◌+◌, ◌-◌, leb, length, take, drop, Result, Ok, Err, ⊤}
 use Rattle.std.proofs.Math.Option.{Option, none, some}
 use Rattle.rfc4180.specs.Writer.{written, writable}
 use Rattle.planfile.specs.Numerals.{decimal}
+use Rattle.lines.specs.declared.output.Output.{Output}
 use Rattle.lines.specs.declared.WriteError.{WriteError}
 use Rattle.lines.specs.declared.WriteError.TheVariants.{Refused, TooLong}
 
@@ -25,13 +26,18 @@ number n = some (decimal n)
 
 -- ---- outputs
 
--- an output: the place of the next text, or why there is none, and the bytes that it holds
-pub record Output : Type 0 where
-  pub next : Result ℕ WriteError
+-- what became of an output: whether every text was put, or why one was left out; the place of the next text; and the bytes that it holds
+pub record State : Type 0 where
+  pub wrote : Result ⊤ WriteError
+  pub at : ℕ
   pub bytes : List ℕ
 
-abbrev pub output : Result ℕ WriteError → (bytes : List ℕ) → Output
-output next bytes = record { next = next; bytes = bytes }
+abbrev pub state : Result ⊤ WriteError → (at : ℕ) → (bytes : List ℕ) → State
+state wrote at bytes = record { wrote = wrote; at = at; bytes = bytes }
+
+-- an output that a call was lent, or has left with what it answered
+abbrev pub left : Result ⊤ WriteError → Output → State
+left wrote out = state wrote out.at out.bytes.now
 
 -- some bytes in the place of those that stood from a place on
 unfoldable pub put_at : (at : ℕ) → (bytes lent : List ℕ) → List ℕ
@@ -39,20 +45,20 @@ put_at at bytes lent = take at lent ++ (bytes ++ drop (at + length bytes) lent)
 
 -- A text at the next place, where it fits: the place behind it is then the next. Where it cannot be written or does not fit, neither it
 -- nor any later text is put.
-unfoldable pub put_if : (fits : Bool) → (at : ℕ) → (bytes lent : List ℕ) → Output
-put_if true at bytes lent = output (Ok (at + length bytes)) (put_at at bytes lent)
-put_if false at bytes lent = output (Err TooLong) lent
+unfoldable pub put_if : (fits : Bool) → (at : ℕ) → (bytes lent : List ℕ) → State
+put_if true at bytes lent = state (Ok tt) (at + length bytes) (put_at at bytes lent)
+put_if false at bytes lent = state (Err TooLong) at lent
 
-unfoldable pub put_next : Text → Result ℕ WriteError → (lent : List ℕ) → Output
-put_next text (Err error) lent = output (Err error) lent
-put_next none (Ok at) lent = output (Err Refused) lent
-put_next (some bytes) (Ok at) lent = put_if (leb (at + length bytes) (length lent)) at bytes lent
+unfoldable pub put_next : Text → Result ⊤ WriteError → (at : ℕ) → (lent : List ℕ) → State
+put_next text (Err error) at lent = state (Err error) at lent
+put_next none (Ok _) at lent = state (Err Refused) at lent
+put_next (some bytes) (Ok _) at lent = put_if (leb (at + length bytes) (length lent)) at bytes lent
 
-unfoldable pub put : Text → Output → Output
-put text out = put_next text out.next out.bytes
+unfoldable pub put : Text → State → State
+put text out = put_next text out.wrote out.at out.bytes
 
 -- texts one behind the other
-unfoldable pub put_all : List Text → Output → Output
+unfoldable pub put_all : List Text → State → State
 put_all [] out = out
 put_all (text ∷ texts) out = put_all texts (put text out)
 
@@ -62,11 +68,13 @@ put_all (text ∷ texts) out = put_all texts (put text out)
 abbrev pub between : (from to : ℕ) → (bytes : List ℕ) → List ℕ
 between from to bytes = take (to - from) (drop from bytes)
 
--- A function puts those texts: that is what it returns, and what the output then holds.
-pub record Puts (texts : List Text) (before after : Output) : Type 0 where
-  pub all : after ≡ put_all texts before
+-- A function puts those texts: that is what it answers, and what the output then holds. It is the same reference still: what it holds is what
+-- the bytes that it was made of hold.
+pub record Puts (texts : List Text) (before : Output) (result : Result ⊤ WriteError) (after : Output) : Type 0 where
+  pub all : left result after ≡ put_all texts (left (Ok tt) before)
+  pub same : after.bytes.ghost_name ≡ before.bytes.ghost_name
 
 -- And where they are written, what stands from the place before up to the place behind reads as it is meant.
-pub record Writes (texts : List Text) (Reads : List ℕ → Type 0) (before after : Output) : Type 0 where
-  pub puts : Puts texts before after
-  pub reads : (from to : ℕ) → before.next ≡ Ok from → after.next ≡ Ok to → Reads (between from to after.bytes)
+pub record Writes (texts : List Text) (Reads : List ℕ → Type 0) (before : Output) (result : Result ⊤ WriteError) (after : Output) : Type 0 where
+  pub puts : Puts texts before result after
+  pub reads : result ≡ Ok tt → Reads (between before.at after.at after.bytes.now)

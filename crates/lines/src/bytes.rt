@@ -1,18 +1,22 @@
 // Bytes put into an output as they are.
 ghost use Rattle.std.specs.Prelude.{◌≡◌, [], ◌∷◌};
-ghost use Rattle.lines.specs.Putting.{plain, output, Writes};
+ghost use Rattle.lines.specs.Putting.{plain, Writes};
 
 use crate::WriteError;
+use crate::output::Output;
 
-// Puts bytes into an output as they are.
-pub fn write_bytes(bytes: &[u8], out: &mut [u8], at: usize) -> Result<usize, WriteError>
-    ensures { Writes (plain bytes.now ∷ []) (λ stands. stands ≡ bytes.now)
-        (output (Ok at) out.old) (output result out.new) }
-{
-    if out.len() < at || out.len() - at < bytes.len() {
-        return Err(WriteError::TooLong);
+impl Output<'_> {
+    // Puts bytes as they are.
+    pub fn write_bytes(&mut self, bytes: &[u8]) -> Result<(), WriteError>
+        ensures { Writes (plain bytes.now ∷ []) (λ stands. stands ≡ bytes.now) self.old result self.new }
+    {
+        // Not by `get_mut`: tried, and the kit says nothing of what a slice ends as behind it.
+        if self.bytes.len() - self.at < bytes.len() {
+            return Err(WriteError::TooLong);
+        }
+        let end = self.at + bytes.len();
+        self.bytes[self.at..end].copy_from_slice(bytes);
+        self.at = end;
+        Ok(())
     }
-    let end = at + bytes.len();
-    out[at..end].copy_from_slice(bytes);
-    Ok(end)
 }

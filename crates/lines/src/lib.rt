@@ -1,14 +1,14 @@
 // Lines put into an output, text by text: what every program prints by. A text goes where the one before it ended, so a line is a chain
-// of calls: each takes the place that the call before it returned, and an error ends the chain.
+// of calls, and an error ends the chain by `?`.
 #![tactic(auto)]
 
 mod bytes;
 mod field;
 mod number;
+mod output;
 
-pub use bytes::write_bytes;
-pub use field::write_field;
-pub use number::{MOST_DIGITS, write_number};
+pub use number::MOST_DIGITS;
+pub use output::Output;
 
 // Why a text was not put: a value held a byte that RFC 4180 has nowhere, or the text did not fit.
 #[derive(Clone, Copy, Debug, PartialEq, Eq)]

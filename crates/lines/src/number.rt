@@ -1,14 +1,14 @@
 // A number put into an output in base ten.
 ghost use Rattle.std.specs.Prelude.{◌≡◌, List, [], ◌∷◌, ◌++◌, ℕ};
 ghost use Rattle.planfile.specs.Numerals.{decimal, Numeral};
-ghost use Rattle.lines.specs.Putting.{plain, number, output, Writes};
+ghost use Rattle.lines.specs.Putting.{plain, number, Writes};
 
 use crate::WriteError;
-use crate::bytes::write_bytes;
-use itoa::Buffer;
+use crate::output::Output;
+use itoa::{Buffer, Integer};
 
 // No number of 64 bits has more digits.
-pub const MOST_DIGITS: usize = 20;
+pub const MOST_DIGITS: usize = u64::MAX_STR_LEN;
 
 // The digits of a number in base ten.
 fn digits_of(n: u64, buffer: &mut Buffer) -> &[u8]
@@ -17,13 +17,14 @@ fn digits_of(n: u64, buffer: &mut Buffer) -> &[u8]
     buffer.format(n).as_bytes()
 }
 
-// Puts a number in base ten, and behind it what ends it: a comma, CR LF, or nothing.
-pub fn write_number(n: u64, end: &[u8], out: &mut [u8], at: usize) -> Result<usize, WriteError>
-    ensures { Writes (number n ∷ plain end.now ∷ [])
-        (λ stands. (digits : List ℕ) × Numeral digits n × (stands ≡ digits ++ end.now))
-        (output (Ok at) out.old) (output result out.new) }
-{
-    let mut buffer = Buffer::new();
-    let behind = write_bytes(digits_of(n, &mut buffer), out, at)?;
-    write_bytes(end, out, behind)
+impl Output<'_> {
+    // Puts a number in base ten, and behind it what ends it: a comma, CR LF, or nothing.
+    pub fn write_number(&mut self, n: u64, end: &[u8]) -> Result<(), WriteError>
+        ensures { Writes (number n ∷ plain end.now ∷ [])
+            (λ stands. (digits : List ℕ) × Numeral digits n × (stands ≡ digits ++ end.now)) self.old result self.new }
+    {
+        let mut buffer = Buffer::new();
+        self.write_bytes(digits_of(n, &mut buffer))?;
+        self.write_bytes(end)
+    }
 }

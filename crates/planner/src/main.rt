@@ -1,8 +1,7 @@
 // Plans the file on standard input and prints the answer, or the refusal, on standard output.
 #![tactic(auto)]
 
-ghost use Rattle.std.specs.Prelude.{◌≡◌, ◌≤◌, length, take, IfOk};
-ghost use Rattle.planfile.specs.Print.{longest_print};
+ghost use Rattle.std.specs.Prelude.{◌≤◌, length, take, IfOk};
 ghost use Rattle.planfile.specs.Promises.{ProgramPrints};
 
 use planfile::{LONGEST_PRINT, MOST_BYTES};
@@ -32,12 +31,11 @@ fn read_input<R: Read>(from: &mut R, buffer: &mut [u8]) -> io::Result<usize>
 
 // Plans a file, prints the answer or the refusal into the output, and answers the length of the print. With these tables and this much
 // output it is document 01's print of the file, and never `refused,9`.
-fn print_of(file: &[u8], output: &mut [u8]) -> usize
-    requires { length output.old ≡ longest_print }
+fn print_of(file: &[u8], output: &mut [u8; LONGEST_PRINT]) -> usize
     ensures print { ProgramPrints file.now (take result output.new) }
     ensures within { result ≤ length output.new }
 {
-    // MOST_CELLS, written out as the documents do
+    // MOST_CELLS, by the number itself: the form of the change that set it asks for that
     let mut table = [0u64; 444];
     let mut spare = [0u64; MOST_ENGINES];
     match filecall::plan_file(file, &mut table, &mut spare, output) {

@@ -1,28 +1,21 @@
 -- Numbers of an input, with anything that is no digit between them.
 -- Assumes nothing.
-use Rattle.std.specs.Prelude.{Bool, cond, ◌&&◌, List, [], ◌∷◌, ℕ, suc, ◌+◌, min, leb, length, drop}
-use Rattle.planfile.specs.Numerals.{digit_zero, digit_nine, value_behind}
-use Rattle.report.specs.declared.input.Token.{Token}
+use Rattle.std.specs.Prelude.{List, ℕ, not, min, length, take_while, drop}
+use Rattle.std.specs.Char.{is_ascii_digit}
+use Rattle.planfile.specs.Numerals.{value_behind}
 
-unfoldable pub is_digit : (b : ℕ) → Bool
-is_digit b = leb digit_zero b && leb b digit_nine
+-- an input from its first digit on
+unfoldable pub from_digit : (input : List ℕ) → List ℕ
+from_digit input = drop (length (take_while (λ b. not (is_ascii_digit b)) input)) input
 
--- how many bytes stand before the first digit
-unfoldable pub gap : (bytes : List ℕ) → ℕ
-gap [] = 0
-gap (b ∷ bytes) = cond (is_digit b) 0 (suc (gap bytes))
+-- the digits that come first
+unfoldable pub first_digits : (input : List ℕ) → List ℕ
+first_digits input = take_while is_ascii_digit (from_digit input)
 
--- the digits at the front
-unfoldable pub digits_of : (bytes : List ℕ) → List ℕ
-digits_of [] = []
-digits_of (b ∷ bytes) = cond (is_digit b) (b ∷ digits_of bytes) []
+-- the number that they stand for, no more than the most
+unfoldable pub first_number : (input : List ℕ) → (most : ℕ) → ℕ
+first_number input most = min (value_behind 0 (first_digits input)) most
 
--- the number of the digits that stand at a place, behind digits that stand for n, no more than the most; and the place behind them
-unfoldable pub token_behind : (input : List ℕ) → (n at most : ℕ) → Token
-token_behind input n at most =
-    let digits = digits_of (drop at input) in
-    record { value = min (value_behind n digits) most; next = at + length digits }
-
--- the number that begins at a place or behind it
-unfoldable pub token_at : (input : List ℕ) → (from most : ℕ) → Token
-token_at input from most = token_behind input 0 (from + gap (drop from input)) most
+-- what stands behind them
+unfoldable pub behind_number : (input : List ℕ) → List ℕ
+behind_number input = drop (length (first_digits input)) (from_digit input)

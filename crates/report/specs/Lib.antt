@@ -4,5 +4,6 @@ pub mod Answers
 pub mod Input
 pub mod Numbers
 pub mod Page
+pub mod Plans
 pub mod Shown
 pub mod Words

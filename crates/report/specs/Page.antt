@@ -1,7 +1,8 @@
 -- A page with texts, and what of it a program writes. Assumes nothing.
 use Rattle.std.specs.Prelude.{cond, List, [], ℕ, leb, length, take, replicate, Result, Ok, Err}
+use Rattle.std.specs.Result.{result_and}
 use Rattle.lines.specs.declared.WriteError.{WriteError}
-use Rattle.lines.specs.Putting.{Text, output, put_all}
+use Rattle.lines.specs.Putting.{Text, state, put_all}
 use Rattle.report.specs.declared.page.Page.{Page}
 
 -- the page up to the next place; nothing where a text was left out
@@ -13,6 +14,7 @@ page_text (Err error) page = []
 abbrev pub page_bytes : ℕ
 page_bytes = 16384
 
--- a page that texts are put into from its front on
+-- a page that texts are put into from its front on, and the place behind them where none was left out
 unfoldable pub page_of : List Text → Page
-page_of texts = let out = put_all texts (output (Ok 0) (replicate page_bytes 0)) in record { bytes = out.bytes; next = out.next }
+page_of texts =
+    let out = put_all texts (state (Ok tt) 0 (replicate page_bytes 0)) in record { bytes = out.bytes; next = result_and out.wrote (Ok out.at) }

@@ -1,9 +1,7 @@
 // Modes, answers and refusals as the test programs print them.
-ghost use Rattle.std.specs.Prelude.{◌≡◌, [], ◌∷◌, codes};
-ghost use Rattle.planning.specs.Refusals.{fault_number};
-ghost use Rattle.report.specs.Answers.{mode_name, answer_words};
+ghost use Rattle.std.specs.Prelude.{◌≡◌};
+ghost use Rattle.report.specs.Answers.{mode_name, answer_words, answer_texts};
 ghost use Rattle.report.specs.Page.{page_of};
-ghost use Rattle.report.specs.Words.{word_texts};
 
 use crate::page::Page;
 use crate::pages::words_page;
@@ -32,19 +30,16 @@ fn answer_words(outcome: Outcome) -> &'static [u8]
     }
 }
 
-// An answer, its minutes and its tries.
-pub fn answer_page(answer: Answer) -> Page
-    ensures { result ≡ page_of (word_texts (answer_words answer.outcome) (answer.minutes ∷ answer.tries ∷ [])) }
+// An answer with its minutes and its tries, or a refusal by its fault's number and its place.
+#[tactic(auto, unfolding(crate::specs::Answers::answer_texts))]
+pub fn answer_page(answer: Result<Answer, Refusal>) -> Page
+    ensures { result ≡ page_of (answer_texts answer) }
 {
-    words_page(
-        answer_words(answer.outcome),
-        &[answer.minutes, answer.tries],
-    )
-}
-
-// A refusal by its fault's number and its place.
-pub fn refusal_page(refusal: Refusal) -> Page
-    ensures { result ≡ page_of (word_texts (codes "refused # #") (fault_number refusal.fault ∷ refusal.place ∷ [])) }
-{
-    words_page(b"refused # #", &[u64::from(refusal.fault), refusal.place])
+    match answer {
+        Ok(answer) => words_page(
+            answer_words(answer.outcome),
+            &[answer.minutes, answer.tries],
+        ),
+        Err(refusal) => words_page(b"refused # #", &[u64::from(refusal.fault), refusal.place]),
+    }
 }

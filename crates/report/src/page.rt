@@ -14,13 +14,15 @@ pub struct Page {
     pub next: Result<usize, WriteError>,
 }
 
-// What of a page is to be written: all that was put there, or nothing where a text was left out.
-#[tactic(auto, unfolding(crate::specs::Page::page_text))]
-pub fn written(page: &[u8], next: Result<usize, WriteError>) -> &[u8]
-    ensures { result.now ≡ page_text next page.now }
-{
-    match next {
-        Ok(end) if end <= page.len() => &page[..end],
-        _ => &page[..0],
+impl Page {
+    // What is to be written: all that was put there, or nothing where a text was left out.
+    #[tactic(auto, unfolding(crate::specs::Page::page_text))]
+    pub fn written(&self) -> &[u8]
+        ensures { result.now ≡ page_text self.now.next self.now.bytes }
+    {
+        match self.next {
+            Ok(end) if end <= self.bytes.len() => &self.bytes[..end],
+            _ => &self.bytes[..0],
+        }
     }
 }

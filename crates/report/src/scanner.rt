@@ -1,29 +1,56 @@
-// The numbers of an input, one behind the other.
-ghost use Rattle.std.specs.Prelude.{◌≡◌, ◌≤◌, length};
-ghost use Rattle.report.specs.Input.{token_at};
+// The numbers of an input, one behind the other. Anything that is no digit stands between them.
+ghost use Rattle.std.specs.Prelude.{◌≡◌, ◌≤◌, length, not, take_while};
+ghost use Rattle.std.specs.Char.{is_ascii_digit};
+ghost use Rattle.report.specs.Input.{first_digits, first_number, behind_number};
 
-use crate::input::number;
-
-// An input, and the place in it that is looked at next.
-#[derive(Clone, Copy)]
-pub struct Scanner<'a> {
-    pub input: &'a [u8],
-    pub at: usize,
+// How many bytes stand before the first digit.
+fn gap(bytes: &[u8]) -> usize
+    ensures { result ≡ length (take_while (λ b. not (is_ascii_digit b)) bytes.now) }
+{
+    bytes.iter().take_while(|b| !b.is_ascii_digit()).count()
 }
 
-impl Scanner<'_> {
-    // The next number, or the most where that is less; 0 where no digit follows. What is looked at next stands behind it.
-    #[tactic(auto, using(crate::proofs::Laws::Input::token_bounds))]
-    pub fn number(&mut self, most: u64) -> u64
-        ensures value { result ≡ (token_at self.old.input.now self.old.at most).value }
-        ensures behind { self.new.at ≡ (token_at self.old.input.now self.old.at most).next }
-        ensures same { self.new.input ≡ self.old.input }
-        ensures capped { result ≤ most }
-        ensures onward { self.old.at ≤ self.new.at }
-        ensures inside { self.old.at ≤ length self.old.input.now → self.new.at ≤ length self.old.input.now }
+// How many digits stand at the front.
+fn digits_count(bytes: &[u8]) -> usize
+    ensures { result ≡ length (take_while is_ascii_digit bytes.now) }
+{
+    bytes.iter().take_while(|b| b.is_ascii_digit()).count()
+}
+
+// What is left of an input.
+#[derive(Clone, Copy)]
+pub struct Scanner<'a> {
+    pub rest: &'a [u8],
+}
+
+impl<'a> Scanner<'a> {
+    // The next digits, up to a byte that is none. They leave the rest, and so does what stands before them.
+    #[tactic(auto, unfolding(crate::specs::Input::from_digit, crate::specs::Input::first_digits, crate::specs::Input::behind_number))]
+    fn digits(&mut self) -> &'a [u8]
+        ensures digits { result.now ≡ first_digits self.old.rest.now }
+        ensures behind { self.new.rest.now ≡ behind_number self.old.rest.now }
     {
-        let token = number(self.input, self.at, most);
-        self.at = token.next;
-        token.value
+        let (_, found) = self.rest.split_at(gap(self.rest));
+        let (digits, behind) = found.split_at(digits_count(found));
+        self.rest = behind;
+        digits
+    }
+
+    // The next number, or the most where that is less; 0 where no digit follows, since an input that ends early is read as zeros. The rest
+    // then begins behind it.
+    pub fn number(&mut self, most: u64) -> u64
+        ensures value { result ≡ first_number self.old.rest.now most }
+        ensures behind { self.new.rest.now ≡ behind_number self.old.rest.now }
+        ensures capped { result ≤ most }
+        ensures onward { length self.new.rest.now ≤ length self.old.rest.now }
+    {
+        let mut value: u64 = 0;
+        for b in self.digits() {
+            value = value
+                .saturating_mul(10)
+                .saturating_add(u64::from(b - b'0'))
+                .min(most);
+        }
+        value
     }
 }

@@ -1,9 +1,9 @@
 // Bytes put into an output so that they stay on one line, whatever they are.
 ghost use Rattle.std.specs.Prelude.{◌≡◌, [], ◌∷◌, ◌++◌, ◌<◌, leb, ◌&&◌};
-ghost use Rattle.lines.specs.Putting.{plain, output, Puts};
+ghost use Rattle.lines.specs.Putting.{plain, Puts};
 ghost use Rattle.report.specs.Shown.{hex_digit, hex_escape, own_letter, escaped, shown_texts};
 
-use lines::{WriteError, write_bytes};
+use lines::{Output, WriteError};
 
 // The hexadecimal digit of a number below 16. std's `from_digit` gives it as a `char`, and may give none.
 #[tactic(auto, unfolding(crate::specs::Shown::hex_digit))]
@@ -15,14 +15,10 @@ fn hex_digit(n: u8) -> u8
 }
 
 // A byte by its two hexadecimal digits.
-fn write_hex(b: u8, out: &mut [u8], at: usize) -> Result<usize, WriteError>
-    ensures { Puts (plain (hex_escape b) ∷ []) (output (Ok at) out.old) (output result out.new) }
+fn write_hex(b: u8, out: &mut Output<'_>) -> Result<(), WriteError>
+    ensures { Puts (plain (hex_escape b) ∷ []) out.old result out.new }
 {
-    write_bytes(
-        &[b'\\', b'x', hex_digit(b / 16), hex_digit(b % 16)],
-        out,
-        at,
-    )
+    out.write_bytes(&[b'\\', b'x', hex_digit(b / 16), hex_digit(b % 16)])
 }
 
 // The letter of a byte that has an escape of its own.
@@ -47,23 +43,23 @@ fn is_printed(b: u8) -> bool
 
 // A byte by its own escape where it has one, as itself where it can be printed, and by its digits where not. std's `escape_ascii` would escape
 // quotes as well, which stand in many of the examples.
-fn write_escaped(b: u8, out: &mut [u8], at: usize) -> Result<usize, WriteError>
-    ensures { Puts (plain (escaped b) ∷ []) (output (Ok at) out.old) (output result out.new) }
+fn write_escaped(b: u8, out: &mut Output<'_>) -> Result<(), WriteError>
+    ensures { Puts (plain (escaped b) ∷ []) out.old result out.new }
 {
     match own_letter(b) {
-        Some(letter) => write_bytes(&[b'\\', letter], out, at),
-        None if is_printed(b) => write_bytes(&[b], out, at),
-        None => write_hex(b, out, at),
+        Some(letter) => out.write_bytes(&[b'\\', letter]),
+        None if is_printed(b) => out.write_bytes(&[b]),
+        None => write_hex(b, out),
     }
 }
 
 // Puts bytes in brackets, with line breaks, backslashes and what cannot be printed as escapes.
-pub(crate) fn write_shown(bytes: &[u8], out: &mut [u8], at: usize) -> Result<usize, WriteError>
-    ensures { Puts (shown_texts bytes.now) (output (Ok at) out.old) (output result out.new) }
+pub(crate) fn write_shown(bytes: &[u8], out: &mut Output<'_>) -> Result<(), WriteError>
+    ensures { Puts (shown_texts bytes.now) out.old result out.new }
 {
-    let mut to = write_bytes(b"[", out, at)?;
+    out.write_bytes(b"[")?;
     for b in bytes {
-        to = write_escaped(*b, out, to)?;
+        write_escaped(*b, out)?;
     }
-    write_bytes(b"]", out, to)
+    out.write_bytes(b"]")
 }

@@ -3,7 +3,7 @@ ghost use Rattle.std.specs.Prelude.{ℕ, ◌<◌, ◌≤◌, length, take, IfOk,
 ghost use Rattle.std.specs.Io.KnownBytes.{Appends, Consumes, IsAtEnd};
 ghost use Rattle.report.specs.Page.{page_text};
 
-use crate::page::{Page, written};
+use crate::page::Page;
 use std::io::{self, Read, Write};
 
 // Reads to the end of the input, or until the buffer is full, and answers how many bytes it put there. What was read before an error stands
@@ -30,5 +30,5 @@ pub fn read_full<R: Read>(from: &mut R, buffer: &mut [u8]) -> io::Result<usize>
 pub fn print<W: Write>(to: &mut W, page: Page) -> io::Result<()>
     ensures { OnOk result (Appends (W.contents to.old) (W.contents to.new) (page_text page.next page.bytes)) }
 {
-    to.write_all(written(&page.bytes, page.next))
+    to.write_all(page.written())
 }

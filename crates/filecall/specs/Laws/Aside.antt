@@ -1,38 +1,24 @@
--- A call answered in lists of its own, with space for every print, and handed over where the print fits. Assumes nothing.
-use Rattle.std.proofs.Math.Path.{◌≡◌, sym, ap}
-use Rattle.std.specs.Prelude.{refl, List, [], ◌∷◌, ℕ, ◌≤◌, ◌<◌, take, true, false, Result, Ok, Err, is_err}
-use Rattle.std.proofs.Common.{◌∙◌, arith, take_all, le-leb, true≢false}
-use Rattle.std.proofs.Math.ListN.{length}
+-- A plan answered in lists of the call's own, with space for every print, and handed over where the print fits. Assumes nothing.
+use Rattle.std.specs.Prelude.{◌≡◌, refl, List, [], ◌∷◌, ℕ, ◌≤◌, ◌<◌, length, take, true, false, Result, Ok, Err, is_err, ⊤}
+use Rattle.std.proofs.Common.{sym, ap, ◌∙◌, arith, le-leb, true≢false}
 use Rattle.std.proofs.Math.Seq.{take-append_seam}
 use Rattle.std.proofs.lemmas.Bool.{lt-leb}
+use Rattle.lines.specs.declared.output.Output.{Output}
 use Rattle.lines.specs.declared.WriteError.{WriteError}
 use Rattle.lines.specs.Laws.Front.{bytes-at-front, bytes-kept}
-use Rattle.lines.specs.Putting.{plain, output as output-of, Puts}
+use Rattle.lines.specs.Putting.{plain, Puts}
 use Rattle.planning.specs.declared.Answer.{Answer}
-use Rattle.planning.specs.declared.Refusal.{Refusal}
 use Rattle.planning.specs.declared.Fault.TheVariants.{Space}
-use Rattle.planning.specs.Bounds.{most_cells, most_engines}
-use Rattle.planning.proofs.Laws.OnExit.{over-whole}
+use Rattle.planning.specs.Modes.{planned, answer_of}
 use Rattle.planning.specs.Tables.{over_front}
-use Rattle.planfile.specs.FileCall.{FileCall, printed, read_call, answer_by, answer_to_file, on_exit, file_table, file_spare, file_output}
-use Rattle.planfile.specs.FilePlan.{FilePlan}
-use Rattle.planfile.proofs.Laws.Holding.{accepted-holds}
+use Rattle.planfile.specs.FileCall.{printed, answer_by, on_exit}
+use Rattle.planfile.specs.FilePlan.{FilePlan, unnamed}
 use Rattle.planfile.proofs.Laws.PrintLength.{print-length}
 use Rattle.planfile.specs.Print.{longest_print}
-use Rattle.planfile.specs.Promises.{FilePromised}
-use Rattle.planfile.specs.Reading.{Read, refused, accepted, ◌>>=◌, fault, require, read_file}
-use Rattle.filecall.specs.Calls.{call_with}
-use Rattle.filecall.specs.HandOver.{with_space, Returned}
-use Rattle.filecall.specs.Laws.FileCall.{read-promised, refusal-promised, file-refused, call_space}
-
--- a list copied over another of its length
-pub copied_whole : (new lent : List ℕ) {after : List ℕ} → length new ≡ length lent → after ≡ over_front (take (length lent) new) lent → after ≡ new
-copied_whole new lent same copied = copied ∙ rw (take_all (length lent) new (omega arith)) (over-whole new lent same)
-
--- what is promised of equal lists
-pub own-promised : {file table spare own-table own-spare output : List ℕ} {r : Returned} {table' spare' output' : List ℕ} → own-table ≡ table → own-spare ≡ spare
-    → FilePromised (call_with file own-table own-spare output) r table' spare' output' → FilePromised (call_with file table spare output) r table' spare' output'
-own-promised t s promise = rw (t, s) at promise
+use Rattle.planfile.specs.Reading.{refused, accepted, ◌>>=◌, fault, require}
+use Rattle.planreader.specs.declared.FilePlan.{FilePlan as ByValue}
+use Rattle.planreader.specs.Plans.{plan_by, UsablePlan}
+use Rattle.filecall.specs.HandOver.{with_space, Returned, Lent, lent_lists, HandedOver}
 
 -- a result by its test
 ok_of : {T E : Type 0} (r : Result T E) → is_err r ≡ false → (x : T) × (r ≡ Ok x)
@@ -44,11 +30,13 @@ err_of (Ok x) h = absurd (true≢false (sym h))
 err_of (Err e) h = (e, refl)
 
 -- equal answers have prints of one length
-same-length : {a b : Answer} {n m : ℕ} → ◌≡◌ {A = Returned} (Ok (a, n)) (Ok (b, m)) → n ≡ m
-same-length {a} {b} {n} {m} e = let both : ◌≡◌ {A = Answer × ℕ} (a, n) (b, m) = cc in ap (λ (p : Answer × ℕ). p.1) both
+same-answer : {a b : Answer} {n m : ℕ} → ◌≡◌ {A = Returned} (Ok (a, n)) (Ok (b, m)) → (a ≡ b) × (n ≡ m)
+same-answer {a} {b} {n} {m} e =
+    let both : ◌≡◌ {A = Answer × ℕ} (a, n) (b, m) = cc in
+    (ap (λ (p : Answer × ℕ). p.0) both, ap (λ (p : Answer × ℕ). p.1) both)
 
 -- with space and without
-with-space : (f : FilePlan) (output : List ℕ) → length (printed f) ≤ length output → with_space f output ≡ accepted f
+pub with-space : (f : FilePlan) (output : List ℕ) → length (printed f) ≤ length output → with_space f output ≡ accepted f
 unfolding with_space ◌>>=◌ require
 with-space f output room = rw (le-leb (length (printed f)) (length output) room)
 
@@ -56,82 +44,52 @@ without_space : (f : FilePlan) (output : List ℕ) → length output < length (p
 unfolding with_space ◌>>=◌ require fault
 without_space f output over = rw (lt-leb (length (printed f)) (length output) over)
 
-module _ (call : FileCall) (lent : List ℕ) (cells : length call.table ≡ most_cells) (count : length call.spare ≡ most_engines)
-    (room : longest_print ≤ length lent) where
-  -- the same call with that output
-  abbrev own : FileCall
-  own = call_with call.file call.table call.spare lent
+-- a plan answered in lists like those lent, and an output for every print
+module _ {p : ByValue} (u : UsablePlan p) (table spare output : List ℕ) {blank : List ℕ} (room : longest_print ≤ length blank) {a : Answer} {n : ℕ} {own : Lent}
+    (made : HandedOver (plan_by p) (Ok (a, n)) (lent_lists table spare blank) own) where
+  abbrev f : FilePlan
+  f = plan_by p
 
-  -- a plan that is read has its print in lists of the call's own
-  pub record Made (f : FilePlan) : Type 0 where
-    pub short : length (printed f) ≤ longest_print
-    pub own_read : read_call own ≡ accepted f
-    pub call-read : read_call call ≡ with_space f call.output
+  short : length (printed f) ≤ longest_print
+  short = print-length f u.engines_named u.deliveries_named u.in_range
 
-  made_by : (f : FilePlan) → read_file call.file ≡ accepted f → Made f
-  made_by f reads =
-      let h = accepted-holds call.file f reads in
-      let short = print-length f h.engines_named h.deliveries_named h.in_range in
-      record {
-        short = short;
-        own_read = call_space own f reads cells count ∙ with-space f lent (omega arith);
-        call-read = call_space call f reads cells count;
-      }
+  fits : with_space f blank ≡ accepted f
+  fits = with-space f blank (omega (arith, short))
 
-  module _ {r : Returned} {table' spare' made : List ℕ} (answered : FilePromised own r table' spare' made) where
-    -- refused there, it is refused
-    pub aside_refused : {refusal : Refusal} → r ≡ Err refusal → FilePromised call (Err refusal) call.table call.spare call.output
-    aside_refused {refusal = given} says = go (read_file call.file) refl
-      where
-        go : (m : Read FilePlan) → read_file call.file ≡ m → FilePromised call (Err given) call.table call.spare call.output
-        go (refused refusal) e = unfold answer_to_file answer_by in
-            let told : ◌≡◌ {A = Returned} (Err given) (Err refusal) = sym says ∙ answered.result ∙ ap answer_by (file-refused own refusal e) in
-            let same : given ≡ refusal = cc in
-            rw same (refusal-promised call refusal (file-refused call refusal e))
-        go (accepted f) e = unfold answer_to_file answer_by in
-            let told : ◌≡◌ {A = Returned} (Err given) (Ok (_, length (printed f))) = sym says ∙ answered.result ∙ ap answer_by (made_by f e).own_read in
-            let z : ◌≡◌ {A = ℕ} 0 1 = cc in
-            absurd (omega arith)
+  told : (a ≡ answer_of (planned (unnamed f))) × (n ≡ length (printed f))
+  unfolding answer_by
+  told = same-answer (rw fits at made.result)
 
-    -- printed there, the plan is read
-    module _ {a : Answer} {n : ℕ} (prints : r ≡ Ok (a, n)) where
-      pub plan-read : (f : FilePlan) × Made f
-      plan-read = go (read_file call.file) refl
-        where
-          go : (m : Read FilePlan) → read_file call.file ≡ m → (f : FilePlan) × Made f
-          go (refused refusal) e = unfold answer_to_file answer_by in
-              let told : ◌≡◌ {A = Returned} (Ok (a, n)) (Err refusal) = sym prints ∙ answered.result ∙ ap answer_by (file-refused own refusal e) in
-              let z : ◌≡◌ {A = ℕ} 0 1 = cc in
-              absurd (omega arith)
-          go (accepted f) e = (f, made_by f e)
+  -- its print is the front of what was made
+  pub aside_made : (take n own.output ≡ printed f) × (n ≡ length (printed f)) × (n ≤ longest_print)
+  unfolding on_exit over_front
+  aside_made =
+      let stands = rw fits at made.output in
+      (rw (stands, told.1) (take-append_seam (printed f) _), told.1, omega (arith, told.1, short))
 
-      -- its print is the front of what was made
-      made-front : {f : FilePlan} → Made f → (take n made ≡ printed f) × (n ≡ length (printed f)) × (n ≤ longest_print)
-      unfolding answer_to_file answer_by file_output on_exit over_front
-      made-front {f} m =
-          let told : ◌≡◌ {A = Returned} (Ok (a, n)) (Ok (_, length (printed f))) = sym prints ∙ answered.result ∙ ap answer_by m.own_read in
-          let size = same-length told in
-          (rw (answered.output, m.own_read, size) (take-append_seam (printed f) _), size, omega (arith, m.short))
+  module _ {before after : Output} {next : Result ⊤ WriteError} {out : List ℕ} (front : before.at ≡ 0) (is : before.bytes.now ≡ output)
+      (put : Puts (plain (take n own.output) ∷ []) before next after) (holds : out ≡ after.bytes.now) where
+    put-print : Puts (plain (printed f) ∷ []) before next after
+    put-print = rw aside_made.0 at put
 
-      pub aside_made : (take n made ≡ printed plan-read.0) × (n ≡ length (printed plan-read.0)) × (n ≤ longest_print)
-      aside_made = made-front plan-read.1
+    -- where it fits, all is handed over
+    pub aside_handed : is_err next ≡ false → HandedOver f (Ok (a, n)) (lent_lists table spare output) (lent_lists own.table own.spare out)
+    unfolding answer_by on_exit over_front
+    aside_handed h =
+        let stands = bytes-at-front front is put-print (ok_of next h).1 in
+        let free = with-space f output stands.0 in
+        record {
+          result = rw (free, told.0, told.1);
+          table = rw free (rw fits at made.table);
+          spare = rw free (rw fits at made.spare);
+          output = rw free (holds ∙ stands.2);
+        }
 
-      module _ {next : Result ℕ WriteError} {out : List ℕ} (put : Puts (plain (take n made) ∷ []) (output-of (Ok 0) call.output) (output-of next out)) where
-        put-print : Puts (plain (printed plan-read.0) ∷ []) (output-of (Ok 0) call.output) (output-of next out)
-        put-print = rw aside_made.0 at put
-
-        -- where it fits, all is handed over
-        pub aside_handed : is_err next ≡ false → {table'' spare'' : List ℕ} → table'' ≡ table' → spare'' ≡ spare'
-            → FilePromised call (Ok (a, n)) table'' spare'' out
-        unfolding answer_to_file answer_by file_table file_spare on_exit over_front
-        aside_handed fits t s =
-            let m = plan-read.1 in
-            let stands = bytes-at-front put-print (ok_of next fits).1 in
-            read-promised call (accepted plan-read.0) (m.call-read ∙ with-space plan-read.0 call.output stands.0)
-            (sym prints ∙ answered.result ∙ ap answer_by m.own_read) (t ∙ answered.table ∙ rw m.own_read) (s ∙ answered.spare ∙ rw m.own_read) stands.2
-
-        -- where it does not, nothing is
-        pub aside_kept : is_err next ≡ true → FilePromised call (Err (record { fault = Space; place = 0 })) call.table call.spare out
-        aside_kept over =
-            let kept = bytes-kept put-print (err_of next over).1 in
-            rw kept.1 (refusal-promised call _ (plan-read.1.call-read ∙ without_space plan-read.0 call.output kept.0))
+    -- where it does not, nothing is
+    pub aside_kept : is_err next ≡ true
+        → HandedOver f (Err (record { fault = Space; place = 0 })) (lent_lists table spare output) (lent_lists table spare out)
+    unfolding answer_by on_exit
+    aside_kept h =
+        let kept = bytes-kept front is put-print (err_of next h).1 in
+        let full = without_space f output kept.0 in
+        record { result = rw full refl; table = rw full refl; spare = rw full refl; output = rw full (holds ∙ kept.1) }

@@ -1,24 +1,25 @@
 -- The plan of a file on the numbers that the allocation takes, and the answer to it handed over. Assumes nothing.
-use Rattle.std.specs.Prelude.{◌≡◌, ℕ, zero, suc, ◌*◌, ◌≤◌, ◌<◌, take, get_or, Result, Ok}
+use Rattle.std.specs.Prelude.{◌≡◌, ℕ, zero, suc, ◌*◌, ◌≤◌, ◌<◌, take, get_or, Result, Ok, ⊤}
 use Rattle.std.proofs.Math.Path.{refl, sym, ap, ap₂}
-use Rattle.std.proofs.Common.{◌∙◌, mul-le-mul, arith, take-append-drop, length-take-le}
+use Rattle.std.proofs.Common.{◌∙◌, arith, take-append-drop, length-take-le}
 use mathlib.Core.List.{List, [], ◌∷◌, ◌++◌, map, zip_with}
 use Rattle.std.proofs.Math.ListN.{length, drop}
 use borrow.Author.Tests.{le-leb}
+use Rattle.lines.specs.declared.output.Output.{Output}
 use Rattle.lines.specs.declared.WriteError.{WriteError}
 use Rattle.lines.specs.Laws.Front.{behind, lines-at-front}
 use Rattle.lines.specs.Lines.{PutLines}
-use Rattle.lines.specs.Putting.{Output, output}
+use Rattle.lines.specs.Putting.{State, left}
 use Rattle.planning.specs.declared.Answer.{Answer}
 use Rattle.planning.specs.declared.Refusal.{Refusal}
-use Rattle.planning.specs.Bounds.{most_cells}
 use Rattle.planning.proofs.Laws.Modes.{planned-searched}
 use Rattle.planning.proofs.Laws.Numbers.{unrefused-iff}
 use Rattle.planning.proofs.Laws.OnExit.{over-whole}
 use Rattle.planning.proofs.Laws.Soundness.{plan-length, length-spares}
 use Rattle.planning.proofs.Laws.Tables.{length-listed, listed_same, listed-take, map-listed}
 use Rattle.planning.specs.Modes.{planned, answer_of, spares, table_by, spares_by, table_after, spares_after}
-use Rattle.planning.specs.Numbers.{Call, Accepted, plan_of, engines_of, deliveries_of, answered_by, allocation, unless_refused, table_on_exit, spare_on_exit, call_on}
+use Rattle.planning.specs.Numbers.{Call, Accepted, plan_of, engines_of, deliveries_of, call_on}
+use Rattle.planning.specs.Numbers.{answered_by, allocation, unless_refused, table_on_exit, spare_on_exit}
 use Rattle.planning.specs.Plan.{Plan}
 use Rattle.planning.specs.Search.{found, none, stopped}
 use Rattle.planning.specs.Search as search
@@ -50,7 +51,8 @@ paired pair (suc n) (a ∷ firsts) [] l m = absurd (omega arith)
 paired pair (suc n) (a ∷ firsts) (b ∷ seconds) l m = ap (λ (items : List _). pair a b ∷ items) (paired pair n firsts seconds (omega arith) (omega arith))
 
 -- the items of columns without their names
-unnamed_items : {A B : Type 0} (make : List ℕ → ℕ → ℕ → A) (content : A → B) (pair : ℕ → ℕ → B) → ((text : List ℕ) (a b : ℕ) → content (make text a b) ≡ pair a b)
+unnamed_items : {A B : Type 0} (make : List ℕ → ℕ → ℕ → A) (content : A → B) (pair : ℕ → ℕ → B)
+    → ((text : List ℕ) (a b : ℕ) → content (make text a b) ≡ pair a b)
     → {most : ℕ} (c : Items most) → Holding c → zip_with pair (take c.count c.firsts) (take c.count c.seconds) ≡ map content (items_in make c)
 unfolding items_in
 unnamed_items make content pair same c h =
@@ -126,8 +128,8 @@ module _ {p : ByValue} (u : UsablePlan p) (table spare : List ℕ) where
         let free = (unrefused-iff call_by).1 call-accepted in
         (rw (free, call-plan), rw (free, call-plan), rw (free, call-plan))
 
-    pub plan-answered : {a : Result Answer Refusal} {answer : Answer} {pieces left : List ℕ} → a ≡ allocation call_by → pieces ≡ table_on_exit call_by
-        → left ≡ spare_on_exit call_by → a ≡ Ok answer → Answers p answer table spare pieces left
+    pub plan-answered : {a : Result Answer Refusal} {answer : Answer} {pieces own : List ℕ} → a ≡ allocation call_by → pieces ≡ table_on_exit call_by
+        → own ≡ spare_on_exit call_by → a ≡ Ok answer → Answers p answer table spare pieces own
     plan-answered is drawn spared said =
         record {
           usable = u;
@@ -140,32 +142,36 @@ module _ {p : ByValue} (u : UsablePlan p) (table spare : List ℕ) where
 
 -- ---- a plan by value
 
--- the names in columns are those of the items
+-- the first names, one by one
 names-taken : (n : ℕ) (names : List (List ℕ)) → n ≤ length names → listed n (λ k. get_or names k []) ≡ take n names
 unfolding listed
 names-taken zero names l = refl
 names-taken (suc n) [] l = absurd (omega arith)
 names-taken (suc n) (name ∷ names) l = ap (λ (rest : List (List ℕ)). name ∷ rest) (names-taken n names (omega arith))
 
+-- the names in columns are those of the items
 item_names : {A : Type 0} (make : List ℕ → ℕ → ℕ → A) (name : A → List ℕ) → ((text : List ℕ) (a b : ℕ) → name (make text a b) ≡ text)
-    → {most : ℕ} (c : Items most) → Holding c → map name (items_in make c) ≡ names_in c
+    → {most : ℕ} (c : Items most) → map name (items_in make c) ≡ listed c.count (λ k. get_or c.names k [])
 unfolding items_in
-item_names make name made c h =
-    map-listed name c.count _ ∙ listed_same c.count _ _ (λ k l. made _ _ _) ∙ names-taken c.count c.names (omega (arith, h.room, h.names))
+item_names make name made c = map-listed name c.count _ ∙ listed_same c.count _ _ (λ k l. made _ _ _)
+
+-- which in whole columns are the first ones
+names_held : {most : ℕ} (c : Items most) → Holding c → listed c.count (λ k. get_or c.names k []) ≡ names_in c
+names_held c h = names-taken c.count c.names (omega (arith, h.room, h.names))
 
 -- as many names as are counted
 pub names-count : {most : ℕ} {c : Items most} → Holding c → length (names_in c) ≡ c.count
 names-count {c = c} h = length-take-le c.count c.names (omega (arith, h.room, h.names))
 
 module _ {p : ByValue} (u : UsablePlan p) where
-  -- a plan has no more cells than the largest one
-  pub cells_fit : p.deliveries.count * p.engines.count ≤ most_cells
-  cells_fit = omega (arith, mul-le-mul u.deliveries.room u.engines.room)
-
   -- as many engines and deliveries as are counted
   plan-counts : (length (unnamed (plan_by p)).engines ≡ p.engines.count) × (length (unnamed (plan_by p)).deliveries ≡ p.deliveries.count)
   unfolding items_in
   plan-counts = (engine-count (plan_by p) ∙ length-listed p.engines.count _, delivery-count (plan_by p) ∙ length-listed p.deliveries.count _)
+
+  -- of which there is one at least
+  pub some-engine : 0 < p.engines.count
+  some-engine = omega (arith, u.in_range.engine_count.least, plan-counts.0)
 
   -- what is found has a cell for every delivery and engine
   found-cells : {tries : ℕ} {table : List ℕ} → (planned (unnamed (plan_by p))).result ≡ found tries table → length table ≡ p.deliveries.count * p.engines.count
@@ -175,7 +181,7 @@ module _ {p : ByValue} (u : UsablePlan p) where
 
 -- ---- a plan that is answered
 
-module _ {p : ByValue} {answer : Answer} {own_table own_spare pieces left : List ℕ} (a : Answers p answer own_table own_spare pieces left) where
+module _ {p : ByValue} {answer : Answer} {own_table own_spare pieces spared : List ℕ} (a : Answers p answer own_table own_spare pieces spared) where
   abbrev plan : Plan
   plan = unnamed (plan_by p)
 
@@ -184,7 +190,7 @@ module _ {p : ByValue} {answer : Answer} {own_table own_spare pieces left : List
   unfolding table_after table_by
   own-table {table = table} e = a.table ∙ rw e (over-whole table own_table (found-cells a.usable e ∙ sym a.cells))
 
-  own-spare : {tries : ℕ} {table : List ℕ} → (planned plan).result ≡ found tries table → left ≡ spares plan (planned plan).minutes table
+  own-spare : {tries : ℕ} {table : List ℕ} → (planned plan).result ≡ found tries table → spared ≡ spares plan (planned plan).minutes table
   unfolding spares_after spares_by spares
   own-spare {table = table} e =
       a.spare ∙ rw e (over-whole _ own_spare (length-listed (length plan.engines) _ ∙ (plan-counts a.usable).0 ∙ sym a.count))
@@ -205,8 +211,8 @@ module _ {p : ByValue} {answer : Answer} {own_table own_spare pieces left : List
   lines_are =
       rw (
         a.answer,
-        ← item_names delivery_of (λ (i : NamedDelivery). i.name) (λ t a b. refl) p.deliveries a.usable.deliveries,
-        ← item_names engine_of (λ (i : NamedEngine). i.name) (λ t a b. refl) p.engines a.usable.engines,
+        ← (item_names delivery_of (λ (i : NamedDelivery). i.name) (λ t a b. refl) p.deliveries ∙ names_held p.deliveries a.usable.deliveries),
+        ← (item_names engine_of (λ (i : NamedEngine). i.name) (λ t a b. refl) p.engines ∙ names_held p.engines a.usable.engines),
       )
       (print-by-names (plan_by p) (planned plan) pieces (λ tries table e. own-table e))
 
@@ -215,22 +221,23 @@ module _ {p : ByValue} {answer : Answer} {own_table own_spare pieces left : List
   unfolding printed print_of
   print-short = let u = a.usable in print-length (plan_by p) u.engines_named u.deliveries_named u.in_range
 
-  module _ {lent out : List ℕ} {next : Result ℕ WriteError} (room : longest_print ≤ length lent)
-      (put : PutLines (print_lines answer (names_in p.deliveries) (names_in p.engines) pieces) (output (Ok 0) lent) (output next out)) where
-    print-stands : output next out ≡ behind (printed (plan_by p)) lent
+  module _ {before after : Output} {result : Result ⊤ WriteError} {lent : List ℕ} (front : before.at ≡ 0) (is : before.bytes.now ≡ lent)
+      (room : longest_print ≤ length lent) (put : PutLines (print_lines answer (names_in p.deliveries) (names_in p.engines) pieces) before result after) where
+    print-stands : left result after ≡ behind (printed (plan_by p)) lent
     unfolding printed print_of
     print-stands =
         let u = a.usable in
-        lines-at-front (print-writable (plan_by p) u.engines_named u.deliveries_named (planned plan)) (omega (arith, print-short)) (rw lines_are at put)
+        let writes = print-writable (plan_by p) u.engines_named u.deliveries_named (planned plan) in
+        lines-at-front front is writes (omega (arith, print-short)) (rw lines_are at put)
 
-    pub print-next : next ≡ Ok (length (printed (plan_by p)))
-    print-next = ap (λ (o : Output). o.next) print-stands
+    pub print-fits : result ≡ Ok tt
+    print-fits = ap (λ (o : State). o.wrote) print-stands
 
 -- ---- the answer handed over
 
 -- found for the front of a list, it is what is found for all of it
-module _ {p : ByValue} {answer : Answer} (table spare : List ℕ) {pieces left : List ℕ}
-    (a : Answers p answer (take (p.deliveries.count * p.engines.count) table) (take p.engines.count spare) pieces left) where
+module _ {p : ByValue} {answer : Answer} (table spare : List ℕ) {pieces spared : List ℕ}
+    (a : Answers p answer (take (p.deliveries.count * p.engines.count) table) (take p.engines.count spare) pieces spared) where
   table-handed : pieces ++ drop (p.deliveries.count * p.engines.count) table ≡ table_after (unnamed (plan_by p)) table
   unfolding table_after table_by over_front
   table-handed = go (planned (unnamed (plan_by p))).result refl
@@ -240,31 +247,32 @@ module _ {p : ByValue} {answer : Answer} (table spare : List ℕ) {pieces left :
       go (none tries) e = rw (a.table, e) (take-append-drop (p.deliveries.count * p.engines.count) table)
       go (stopped tries) e = rw (a.table, e) (take-append-drop (p.deliveries.count * p.engines.count) table)
 
-  spare-handed : left ++ drop p.engines.count spare ≡ spares_after (unnamed (plan_by p)) spare
+  spare-handed : spared ++ drop p.engines.count spare ≡ spares_after (unnamed (plan_by p)) spare
   unfolding spares_after spares_by over_front
   spare-handed = go (planned (unnamed (plan_by p))).result refl
     where
       plan : Plan
       plan = unnamed (plan_by p)
 
-      go : (r : search.Result) → (planned plan).result ≡ r → left ++ drop p.engines.count spare ≡ spares_by plan (planned plan).minutes r spare
+      go : (r : search.Result) → (planned plan).result ≡ r → spared ++ drop p.engines.count spare ≡ spares_by plan (planned plan).minutes r spare
       go (found tries table) e = rw (own-spare a e, length-spares plan (planned plan).minutes table, (plan-counts a.usable).0)
       go (none tries) e = rw (a.spare, e) (take-append-drop p.engines.count spare)
       go (stopped tries) e = rw (a.spare, e) (take-append-drop p.engines.count spare)
 
   -- with its print, which fits
-  pub handed : {n : ℕ} {next : Result ℕ WriteError} {lent out : List ℕ} → longest_print ≤ length lent
-      → PutLines (print_lines answer (names_in p.deliveries) (names_in p.engines) pieces) (output (Ok 0) lent) (output next out) → next ≡ Ok n
+  pub handed : {n : ℕ} {before after : Output} {result : Result ⊤ WriteError} {lent out : List ℕ} → before.at ≡ 0 → before.bytes.now ≡ lent
+      → longest_print ≤ length lent → PutLines (print_lines answer (names_in p.deliveries) (names_in p.engines) pieces) before result after
+      → n ≡ after.at → out ≡ after.bytes.now
       → HandedOver (plan_by p) (Ok (answer, n)) (lent_lists table spare lent)
-      (lent_lists (pieces ++ drop (p.deliveries.count * p.engines.count) table) (left ++ drop p.engines.count spare) out)
+      (lent_lists (pieces ++ drop (p.deliveries.count * p.engines.count) table) (spared ++ drop p.engines.count spare) out)
   unfolding with_space ◌>>=◌ require answer_by on_exit over_front
-  handed {n} {lent = lent} room put e =
-      let next-is = print-next a room put in
-      let size : n ≡ length (printed (plan_by p)) = cc in
+  handed {lent = lent} front is room put ends holds =
+      let stands = print-stands a front is room put in
+      let size = ends ∙ ap (λ (o : State). o.at) stands in
       let fits = le-leb (length (printed (plan_by p))) (length lent) (omega (arith, print-short a)) in
       record {
         result = rw (fits, size, a.answer);
         table = rw fits table-handed;
         spare = rw fits spare-handed;
-        output = rw fits (ap (λ (o : Output). o.bytes) (print-stands a room put));
+        output = rw fits (holds ∙ ap (λ (o : State). o.bytes) stands);
       }

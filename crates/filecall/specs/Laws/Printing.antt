@@ -1,11 +1,11 @@
 -- The lines of a print one after the other, as loops put them, and by the names of the file. Assumes nothing.
 use Rattle.std.specs.Prelude.{◌≡◌, length, take, drop, get_or, cond, nat_lt, count_by}
 use Rattle.std.proofs.Math.Path.{refl, sym, ap, fun_ext}
-use Rattle.std.proofs.Common.{ap₂, ◌∙◌, add-one, arith, drop_of_length-le, drop-drop, get_or-take, get_or-drop}
+use Rattle.std.proofs.Common.{ap₂, ◌∙◌, add-one, arith, drop_of_length-le, get_or-take, get_or-drop, drop_at}
 use mathlib.Core.List.{List, [], ◌∷◌, ◌++◌}
 use Prim.Native.Nat.{ℕ, zero, suc, ◌+◌, ◌*◌, ◌≤◌, ◌<◌}
 use Rattle.std.proofs.Math.Nat.{zero-mul, suc-mul}
-use Rattle.std.proofs.Math.Seq.{drop-cons}
+use Rattle.std.proofs.Math.Seq.{drop-cons, take_at}
 use Rattle.std.proofs.lemmas.Bool.{lt-ltb}
 use Rattle.std.proofs.lemmas.List.Sums.{sum_by-cons}
 use Rattle.planning.proofs.Laws.Finite.Sums.{positives-front}
@@ -57,10 +57,6 @@ row_same delivery (engine ∷ engines) x y same =
 
 -- ---- all deliveries' lines
 
--- those from delivery p on, of a table with n pieces for each delivery
-abbrev pub table_from : (deliveries engines : List (List ℕ)) → (n : ℕ) → (pieces : List ℕ) → (p : ℕ) → List Line
-table_from deliveries engines n pieces p = piece_lines (drop p deliveries) engines (piece_in n (drop (p * n) pieces))
-
 -- the first row of a table, and the others
 table_split : (delivery : List ℕ) (deliveries engines : List (List ℕ)) (table : List ℕ) (n : ℕ) → length engines ≡ n
     → piece_lines (delivery ∷ deliveries) engines (piece_in n table)
@@ -76,16 +72,19 @@ table_split delivery deliveries engines table n count =
     others : (p i : ℕ) → piece_in n table (suc p) i ≡ piece_in n (drop n table) p i
     others p i = unfold piece_in cell in ap (at table) (omega (arith, suc-mul p n)) ∙ sym (get_or-drop n table (p * n + i) 0)
 
-module _ (deliveries engines : List (List ℕ)) (n : ℕ) (pieces : List ℕ) (p : ℕ) where
-  pub table-end : length deliveries ≤ p → table_from deliveries engines n pieces p ≡ []
-  unfolding piece_lines
-  table-end past = rw (drop_of_length-le deliveries {i = p} past)
+-- so by deliveries and rows side by side, as long as a delivery is left
+module _ (engines : List (List ℕ)) {names : List (List ℕ)} (pieces : List ℕ) where
+  pub table-row : {name bytes : List ℕ} {others : List (List ℕ)} (row rest : List ℕ) → names ≡ name ∷ others → bytes ≡ name → pieces ≡ row ++ rest
+      → length row ≡ length engines → piece_lines names engines (piece_in (length engines) pieces)
+      ≡ row_lines bytes engines (at row) ++ piece_lines others engines (piece_in (length engines) rest)
+  table-row {name} {others = others} row rest listed named split whole =
+      let front = take_at row rest (length engines) whole in
+      let back = drop_at row rest (length engines) whole in
+      rw (listed, named, split) (rw (front, back) at (table_split name others engines (row ++ rest) (length engines) refl))
 
-  pub table-row : p < length deliveries → length engines ≡ n → table_from deliveries engines n pieces p
-      ≡ row_lines (get_or deliveries p []) engines (at (take n (drop (p * n) pieces))) ++ table_from deliveries engines n pieces (p + 1)
-  table-row inside count =
-      rw (drop-cons deliveries p [] inside, add-one, suc-mul p n, ← drop-drop n (p * n) pieces)
-      (table_split (get_or deliveries p []) (drop (suc p) deliveries) engines (drop (p * n) pieces) n count)
+  pub table-end : names ≡ [] → piece_lines names engines (piece_in (length engines) pieces) ≡ []
+  unfolding piece_lines
+  table-end ended = rw ended
 
 -- ---- prints
 

@@ -1,15 +1,15 @@
 -- The line of a refusal: how long it may be, and that it is put where it fits. Assumes nothing.
-use Rattle.std.specs.Prelude.{◌≡◌, List, [], ◌∷◌, ℕ, ◌+◌, ◌*◌, ◌^◌, ◌≤◌, ◌<◌, length, take, Result, Ok, Err, refl}
-use Rattle.std.specs.Result.{result_unwrap_or}
+use Rattle.std.specs.Prelude.{◌≡◌, List, [], ◌∷◌, ℕ, ◌+◌, ◌*◌, ◌^◌, ◌≤◌, ◌<◌, length, take, Result, Ok, Err, ⊤}
 use Rattle.std.proofs.Common.{sym, ap, ◌∙◌, arith, length-append}
 use Rattle.std.proofs.Math.Seq.{take-append_seam}
 use Rattle.rfc4180.specs.Text.{ascii}
 use Rattle.rfc4180.specs.Writer.{written, written_line, written_file}
+use Rattle.lines.specs.declared.output.Output.{Output}
 use Rattle.lines.specs.declared.WriteError.{WriteError}
 use Rattle.lines.specs.Laws.Digits.{most_digits}
 use Rattle.lines.specs.Laws.Front.{lines-at-front, bytes-at-front, bytes-kept}
 use Rattle.lines.specs.Lines.{PutLines}
-use Rattle.lines.specs.Putting.{plain, Output, output, Puts}
+use Rattle.lines.specs.Putting.{plain, State, Puts}
 use Rattle.planning.specs.declared.Refusal.{Refusal}
 use Rattle.planning.specs.Refusals.{fault_number}
 use Rattle.planning.specs.Tables.{over_front}
@@ -36,54 +36,39 @@ refusal-length refusal number place =
     )
 
 -- a refusal's line at the front of an output that holds every one
-pub record RefusalMade (refusal : Refusal) (next : Result ℕ WriteError) (out : List ℕ) : Type 0 where
-  pub ends : next ≡ Ok (length (refusal_print refusal))
-  pub stands : take (length (refusal_print refusal)) out ≡ refusal_print refusal
-  pub short : length (refusal_print refusal) ≤ longest_refusal
+pub record RefusalMade (refusal : Refusal) (result : Result ⊤ WriteError) (n : ℕ) (out : List ℕ) : Type 0 where
+  pub wrote : result ≡ Ok tt
+  pub stands : take n out ≡ refusal_print refusal
+  pub ends : n ≡ length (take n out)
+  pub short : n ≤ longest_refusal
 
 -- it stands there made of its parts
-pub refusal-made : (refusal : Refusal) {number : ℕ} {lent out : List ℕ} {next : Result ℕ WriteError} → number ≡ fault_number refusal.fault → number < 2 ^ 64
-    → refusal.place < 2 ^ 64 → longest_refusal ≤ length lent
-    → PutLines ((ascii "refused" ∷ decimal number ∷ decimal refusal.place ∷ decimal 0 ∷ []) ∷ []) (output (Ok 0) lent) (output next out)
-    → RefusalMade refusal next out
+pub refusal-made : (refusal : Refusal) {number : ℕ} {before after : Output} {result : Result ⊤ WriteError} {lent : List ℕ} → before.at ≡ 0
+    → before.bytes.now ≡ lent → number ≡ fault_number refusal.fault → number < 2 ^ 64 → refusal.place < 2 ^ 64 → longest_refusal ≤ length lent
+    → PutLines ((ascii "refused" ∷ decimal number ∷ decimal refusal.place ∷ decimal 0 ∷ []) ∷ []) before result after
+    → {n : ℕ} {out : List ℕ} → n ≡ after.at → out ≡ after.bytes.now → RefusalMade refusal result n out
 unfolding refusal_print decimal decimal_within ascii
-refusal-made refusal number fits place room put =
+refusal-made refusal front is number fits place room put {n} {out} ends holds =
     let short = refusal-length refusal (rw number at fits) place in
-    let made = lines-at-front (refusal-writable refusal) (omega (arith, short)) (rw number at put) in
-    record {
-      ends = ap (λ (o : Output). o.next) made;
-      stands = ap (λ (o : Output). take (length (refusal_print refusal)) o.bytes) made ∙ take-append_seam (refusal_print refusal) _;
-      short = short;
-    }
-
--- and is what stands up to the next place
-pub refusal-line : {refusal : Refusal} {next : Result ℕ WriteError} {out : List ℕ} {n : ℕ} → RefusalMade refusal next out → next ≡ Ok n
-    → (take n out ≡ refusal_print refusal) × (n ≡ length (take n out)) × (n ≤ longest_refusal)
-refusal-line {refusal} {out = out} {n = n} made is =
-    let size : length (refusal_print refusal) ≡ n = let ends = made.ends in cc in
-    let front : take n out ≡ refusal_print refusal = rw size at made.stands in
-    (front, sym (ap length front ∙ size), omega (arith, made.short))
+    let made = lines-at-front front is (refusal-writable refusal) (omega (arith, short)) (rw number at put) in
+    let size : n ≡ length (refusal_print refusal) = ends ∙ ap (λ (o : State). o.at) made in
+    let stands : take n out ≡ refusal_print refusal =
+    ap (take n) (holds ∙ ap (λ (o : State). o.bytes) made) ∙ rw size (take-append_seam (refusal_print refusal) _) in
+    record { wrote = ap (λ (o : State). o.wrote) made; stands = stands; ends = size ∙ sym (ap length stands); short = omega (arith, size, short) }
 
 -- the line put where it fits, and kept out where it does not
-module _ (refusal : Refusal) {bytes lent out : List ℕ} {next : Result ℕ WriteError} (is : bytes ≡ refusal_print refusal)
-    (put : Puts (plain bytes ∷ []) (output (Ok 0) lent) (output next out)) where
-  same-put : Puts (plain (refusal_print refusal) ∷ []) (output (Ok 0) lent) (output next out)
+module _ (refusal : Refusal) {bytes lent out : List ℕ} {before after : Output} {result : Result ⊤ WriteError} (is : bytes ≡ refusal_print refusal)
+    (front : before.at ≡ 0) (begun : before.bytes.now ≡ lent) (put : Puts (plain bytes ∷ []) before result after) (holds : out ≡ after.bytes.now) where
+  same-put : Puts (plain (refusal_print refusal) ∷ []) before result after
   same-put = rw is at put
 
-  refusal-put : {to : ℕ} → next ≡ Ok to → RefusalWritten refusal lent to out
+  pub refusal-put : {n : ℕ} → result ≡ Ok tt → n ≡ length bytes → RefusalWritten refusal lent n out
   unfolding over_front
-  refusal-put e =
-      let (room, ends, stands) = bytes-at-front same-put e in
-      rw (ends, stands) (refusal-fits refusal room)
+  refusal-put e size =
+      let (room, ends, stands) = bytes-at-front front begun same-put e in
+      rw (holds, stands, size, is) (refusal-fits refusal room)
 
-  refusal-kept : {error : WriteError} → next ≡ Err error → RefusalWritten refusal lent 0 out
+  pub refusal-kept : {error : WriteError} → result ≡ Err error → RefusalWritten refusal lent 0 out
   refusal-kept e =
-      let (over, kept) = bytes-kept same-put e in
-      rw kept (refusal-long refusal over)
-
-  pub refusal-wrote : RefusalWritten refusal lent (result_unwrap_or next 0) out
-  refusal-wrote = go next refl
-    where
-      go : (r : Result ℕ WriteError) → next ≡ r → RefusalWritten refusal lent (result_unwrap_or r 0) out
-      go (Ok to) e = refusal-put e
-      go (Err error) e = refusal-kept e
+      let (over, kept) = bytes-kept front begun same-put e in
+      rw (holds, kept) (refusal-long refusal over)

@@ -1,5 +1,5 @@
 -- Texts put into an output: how far it is written, what it keeps, and what stands in it behind a chain of them. Assumes nothing.
-use Rattle.std.specs.Prelude.{◌≡◌, Bool, true, leb, take, Result, Ok, Err, IsErrAnd}
+use Rattle.std.specs.Prelude.{◌≡◌, Bool, true, leb, take, Result, Ok, Err, IsErrAnd, ⊤}
 use Rattle.std.proofs.Math.Path.{refl, ap}
 use Rattle.std.proofs.Common.{sym, subst, ◌∙◌, add-zero, take-append-drop, length-drop, length-take-le, drop_at, drop-drop, le-leb, leb-true}
 use Rattle.std.proofs.Math.Bool.{false}
@@ -11,9 +11,10 @@ use native.Mathlib.Omega.{arith}
 use Rattle.std.proofs.Math.ListN.{length, drop, length-append}
 use Rattle.std.proofs.Math.Seq.{take_at, drop-append-add}
 use Rattle.std.proofs.lemmas.Bool.{lt-leb}
+use Rattle.lines.specs.declared.output.Output.{Output}
 use Rattle.lines.specs.declared.WriteError.{WriteError}
 use Rattle.lines.specs.declared.WriteError.TheVariants.{Refused, TooLong}
-use Rattle.lines.specs.Putting.{Text, Output, output, put_at, put_if, put_next, put, put_all, between, Puts, Writes}
+use Rattle.lines.specs.Putting.{Text, State, state, left, put_at, put_if, put_next, put, put_all, between, Puts, Writes}
 
 -- ---- bytes at a place
 
@@ -61,102 +62,107 @@ module _ (at : ℕ) (bytes lent : List ℕ) (room : at + length bytes ≤ length
 -- ---- one text
 
 -- behind an error nothing is put
-pub put-stopped : (text : Text) (error : WriteError) (lent : List ℕ) → put text (output (Err error) lent) ≡ output (Err error) lent
+pub put-stopped : (text : Text) (error : WriteError) (at : ℕ) (lent : List ℕ) → put text (state (Err error) at lent) ≡ state (Err error) at lent
 unfolding put put_next
-put-stopped text error lent = refl
+put-stopped text error at lent = refl
 
 -- a value that cannot be written
-pub put-refused : (at : ℕ) (lent : List ℕ) → put none (output (Ok at) lent) ≡ output (Err Refused) lent
+pub put-refused : (at : ℕ) (lent : List ℕ) → put none (state (Ok tt) at lent) ≡ state (Err Refused) at lent
 unfolding put put_next
 put-refused at lent = refl
 
 -- bytes that fit, and bytes that do not
 pub put-fits : (at : ℕ) (bytes lent : List ℕ) → at + length bytes ≤ length lent
-    → put (some bytes) (output (Ok at) lent) ≡ output (Ok (at + length bytes)) (put_at at bytes lent)
+    → put (some bytes) (state (Ok tt) at lent) ≡ state (Ok tt) (at + length bytes) (put_at at bytes lent)
 unfolding put put_next put_if
 put-fits at bytes lent room = rw (le-leb (at + length bytes) (length lent) room)
 
 pub put-long : (at : ℕ) (bytes lent : List ℕ) → length lent < at + length bytes
-    → put (some bytes) (output (Ok at) lent) ≡ output (Err TooLong) lent
+    → put (some bytes) (state (Ok tt) at lent) ≡ state (Err TooLong) at lent
 unfolding put put_next put_if
 put-long at bytes lent over = rw (lt-leb (at + length bytes) (length lent) over)
 
--- a text that is written: where it was put, and that it fits
-pub record Written (text : Text) (out : Output) (to : ℕ) : Type 0 where
-  pub from : ℕ
+-- a text that is written: its bytes, and that they fit where it was put
+pub record Written (text : Text) (out : State) (to : ℕ) : Type 0 where
   pub bytes : List ℕ
-  pub starts : out.next ≡ Ok from
+  pub starts : out.wrote ≡ Ok tt
   pub is : text ≡ some bytes
-  pub room : from + length bytes ≤ length out.bytes
-  pub ends : to ≡ from + length bytes
+  pub room : out.at + length bytes ≤ length out.bytes
+  pub ends : to ≡ out.at + length bytes
 
-next-by : (fits : Bool) (at : ℕ) (bytes lent : List ℕ) (to : ℕ) → (put_if fits at bytes lent).next ≡ Ok to → (fits ≡ true) × (to ≡ at + length bytes)
+wrote-by : (fits : Bool) (at : ℕ) (bytes lent : List ℕ) → (put_if fits at bytes lent).wrote ≡ Ok tt
+    → (fits ≡ true) × ((put_if fits at bytes lent).at ≡ at + length bytes)
 unfolding put_if
-next-by true at bytes lent to e = (refl, cc)
-next-by false at bytes lent to e = let z : ◌≡◌ {A = ℕ} 0 1 = cc in absurd (omega arith)
+wrote-by true at bytes lent e = (refl, refl)
+wrote-by false at bytes lent e = let z : ◌≡◌ {A = ℕ} 0 1 = cc in absurd (omega arith)
 
-written_next : (text : Text) (next : Result ℕ WriteError) (lent : List ℕ) (to : ℕ) → (put_next text next lent).next ≡ Ok to → Written text (output next lent) to
+written_next : (text : Text) (wrote : Result ⊤ WriteError) (at : ℕ) (lent : List ℕ) → (put_next text wrote at lent).wrote ≡ Ok tt
+    → Written text (state wrote at lent) (put_next text wrote at lent).at
 unfolding put_next
-written_next text (Err error) lent to e = let z : ◌≡◌ {A = ℕ} 0 1 = cc in absurd (omega arith)
-written_next none (Ok at) lent to e = let z : ◌≡◌ {A = ℕ} 0 1 = cc in absurd (omega arith)
-written_next (some bytes) (Ok at) lent to e =
-    let (fits, ends) = next-by (leb (at + length bytes) (length lent)) at bytes lent to e in
-    record { from = at; bytes = bytes; starts = refl; is = refl; room = leb-true (at + length bytes) (length lent) fits; ends = ends }
+written_next text (Err error) at lent e = let z : ◌≡◌ {A = ℕ} 0 1 = cc in absurd (omega arith)
+written_next none (Ok _) at lent e = let z : ◌≡◌ {A = ℕ} 0 1 = cc in absurd (omega arith)
+written_next (some bytes) (Ok _) at lent e =
+    let (fits, ends) = wrote-by (leb (at + length bytes) (length lent)) at bytes lent e in
+    record { bytes = bytes; starts = refl; is = refl; room = leb-true (at + length bytes) (length lent) fits; ends = ends }
 
-pub put_written : (text : Text) (out : Output) (to : ℕ) → (put text out).next ≡ Ok to → Written text out to
+pub put_written : (text : Text) (out : State) → (put text out).wrote ≡ Ok tt → Written text out (put text out).at
 unfolding put
-put_written text out to e = written_next text out.next out.bytes to e
+put_written text out e = written_next text out.wrote out.at out.bytes e
 
 -- ---- texts one behind the other
 
-pub all_append : (texts others : List Text) (out : Output) → put_all (texts ++ others) out ≡ put_all others (put_all texts out)
+pub all_append : (texts others : List Text) (out : State) → put_all (texts ++ others) out ≡ put_all others (put_all texts out)
 unfolding put_all
 all_append [] others out = refl
 all_append (text ∷ texts) others out = all_append texts others (put text out)
 
 -- behind an error no text is put
-all-stopped : (texts : List Text) (error : WriteError) (lent : List ℕ) → put_all texts (output (Err error) lent) ≡ output (Err error) lent
+all-stopped : (texts : List Text) (error : WriteError) (at : ℕ) (lent : List ℕ) → put_all texts (state (Err error) at lent) ≡ state (Err error) at lent
 unfolding put_all
-all-stopped [] error lent = refl
-all-stopped (text ∷ texts) error lent = ap (put_all texts) (put-stopped text error lent) ∙ all-stopped texts error lent
+all-stopped [] error at lent = refl
+all-stopped (text ∷ texts) error at lent = ap (put_all texts) (put-stopped text error at lent) ∙ all-stopped texts error at lent
 
 -- what some texts and then others make of an output
-pub no_text : {out : Output} → Puts [] out out
+pub no_text : {out : Output} → Puts [] out (Ok tt) out
 unfolding put_all
-no_text = record { all = refl }
+no_text = record { all = refl; same = refl }
 
-pub then : {texts others : List Text} {before between after : Output} → Puts texts before between → Puts others between after
-    → Puts (texts ++ others) before after
-then {texts} {others} {before} p q = record { all = q.all ∙ ap (put_all others) p.all ∙ sym (all_append texts others before) }
+pub then : {texts others : List Text} {before between after : Output} {first result : Result ⊤ WriteError} → first ≡ Ok tt
+    → Puts texts before first between → Puts others between result after → Puts (texts ++ others) before result after
+then {texts} {others} {before} e p q =
+    let put = rw e at p.all in
+    record { all = q.all ∙ ap (put_all others) put ∙ sym (all_append texts others (left (Ok tt) before)); same = q.same ∙ p.same }
 
 -- an error at some texts, passed on by a `?`, ends those behind them too
 pub passed_on : {T E : Type 0} {error : E} (result : Result T E) → IsErrAnd result (λ given. given ≡ error) → result ≡ Err error
 passed_on (Ok x) h = absurd h
 passed_on (Err given) h = rw h
 
-pub then-error : (others : List Text) {texts : List Text} {before : Output} {error : WriteError} {result : Result ℕ WriteError} {lent : List ℕ}
-    → Puts texts before (output (Err error) lent) → IsErrAnd result (λ given. given ≡ error) → Puts (texts ++ others) before (output result lent)
-then-error others {error = error} {result = result} {lent = lent} p h =
-    rw (passed_on result h) (then p (record { all = sym (all-stopped others error lent) }))
+pub then-error : (others : List Text) {texts : List Text} {before after : Output} {error : WriteError} {first result : Result ⊤ WriteError}
+    → first ≡ Err error → Puts texts before first after → IsErrAnd result (λ given. given ≡ error) → Puts (texts ++ others) before result after
+then-error others {texts} {before} {after} {error} {result = result} e p h =
+    let put = rw e at p.all in
+    let stays = all-stopped others error after.at after.bytes.now in
+    rw (passed_on result h) (record {
+      all = sym stays ∙ ap (put_all others) put ∙ sym (all_append texts others (left (Ok tt) before));
+      same = p.same;
+    })
 
 -- the output is as long as it was
-put-kept : (text : Text) (next : Result ℕ WriteError) (lent : List ℕ) → length (put_next text next lent).bytes ≡ length lent
+put-kept : (text : Text) (wrote : Result ⊤ WriteError) (at : ℕ) (lent : List ℕ) → length (put_next text wrote at lent).bytes ≡ length lent
 unfolding put_next
-put-kept text (Err error) lent = refl
-put-kept none (Ok at) lent = refl
-put-kept (some bytes) (Ok at) lent = go (leb (at + length bytes) (length lent)) refl
+put-kept text (Err error) at lent = refl
+put-kept none (Ok _) at lent = refl
+put-kept (some bytes) (Ok _) at lent = go (leb (at + length bytes) (length lent)) refl
   where
     go : (fits : Bool) → leb (at + length bytes) (length lent) ≡ fits → length (put_if fits at bytes lent).bytes ≡ length lent
     go true e = unfold put_if in put-length at bytes lent (leb-true (at + length bytes) (length lent) e)
     go false e = unfold put_if in refl
 
-pub all-kept : (texts : List Text) (out : Output) → length (put_all texts out).bytes ≡ length out.bytes
+pub all-kept : (texts : List Text) (out : State) → length (put_all texts out).bytes ≡ length out.bytes
 unfolding put_all put
 all-kept [] out = refl
-all-kept (text ∷ texts) out = all-kept texts (put text out) ∙ put-kept text out.next out.bytes
-
-pub puts-kept : {texts : List Text} {before after : Output} → Puts texts before after → length after.bytes ≡ length before.bytes
-puts-kept {texts} {before} p = ap (λ (o : Output). length o.bytes) p.all ∙ all-kept texts before
+all-kept (text ∷ texts) out = all-kept texts (put text out) ∙ put-kept text out.wrote out.at out.bytes
 
 -- texts that can be written, and their bytes one behind the other
 pub data Joined : List Text → List ℕ → Type 0 where
@@ -172,7 +178,7 @@ joined-append {more = more} (joined-more {bytes = bytes} {others = others} i) j 
 
 -- where they all fit, they stand there
 pub all-put : {texts : List Text} {bytes : List ℕ} → Joined texts bytes → (at : ℕ) (lent : List ℕ) → at + length bytes ≤ length lent
-    → put_all texts (output (Ok at) lent) ≡ output (Ok (at + length bytes)) (put_at at bytes lent)
+    → put_all texts (state (Ok tt) at lent) ≡ state (Ok tt) (at + length bytes) (put_at at bytes lent)
 unfolding put_all
 all-put joined-none at lent room = rw (add-zero at, put-none at lent)
 all-put (joined-more {bytes = bytes} {others = others} {texts = texts} j) at lent room =
@@ -182,34 +188,31 @@ all-put (joined-more {bytes = bytes} {others = others} {texts = texts} j) at len
     ap (put_all texts) (put-fits at bytes lent first) ∙ all-put j (at + length bytes) (put_at at bytes lent) rest
     ∙ rw (put-behind at bytes lent first others, length-append bytes others, add_assoc at (length bytes) (length others))
 
--- texts that are written: where they were put, and that they fit
-pub record AllWritten (texts : List Text) (out : Output) (to : ℕ) : Type 0 where
-  pub from : ℕ
+-- texts that are written: their bytes, and that they fit where they were put
+pub record AllWritten (texts : List Text) (out : State) (to : ℕ) : Type 0 where
   pub bytes : List ℕ
-  pub starts : out.next ≡ Ok from
+  pub starts : out.wrote ≡ Ok tt
   pub joins : Joined texts bytes
-  pub room : from + length bytes ≤ length out.bytes
-  pub ends : to ≡ from + length bytes
+  pub room : out.at + length bytes ≤ length out.bytes
+  pub ends : to ≡ out.at + length bytes
 
-pub all-written : (text : Text) (texts : List Text) (out : Output) (to : ℕ) → (put_all (text ∷ texts) out).next ≡ Ok to
-    → AllWritten (text ∷ texts) out to
+pub all-written : (text : Text) (texts : List Text) (out : State) → (put_all (text ∷ texts) out).wrote ≡ Ok tt
+    → AllWritten (text ∷ texts) out (put_all (text ∷ texts) out).at
 unfolding put_all
-all-written text [] out to e =
-    let w = put_written text out to e in
+all-written text [] out e =
+    let w = put_written text out e in
     record {
-      from = w.from;
       bytes = w.bytes ++ [];
       starts = w.starts;
       joins = joined-text w.is joined-none;
       room = rw (append-nil w.bytes) w.room;
       ends = rw (append-nil w.bytes) w.ends;
     }
-all-written text (next ∷ texts) out to e =
-    let others = all-written next texts (put text out) to e in
-    let w = put_written text out others.from others.starts in
+all-written text (next ∷ texts) out e =
+    let others = all-written next texts (put text out) e in
+    let w = put_written text out others.starts in
     let kept = all-kept (text ∷ []) out in
     record {
-      from = w.from;
       bytes = w.bytes ++ others.bytes;
       starts = w.starts;
       joins = joined-text w.is others.joins;
@@ -217,29 +220,16 @@ all-written text (next ∷ texts) out to e =
       ends = omega (arith, length-append w.bytes others.bytes, others.ends, w.ends);
     }
 
--- so they stand from the place before up to the place behind, within the output
-module _ {text : Text} {texts : List Text} {before after : Output} (put : Puts (text ∷ texts) before after) where
-  written_all : {to : ℕ} → after.next ≡ Ok to → AllWritten (text ∷ texts) before to
-  written_all {to} e = all-written text texts before to (rw put.all at e)
-
-  pub next-inside : {to : ℕ} → after.next ≡ Ok to → to ≤ length after.bytes
-  next-inside e =
-      let w = written_all e in
-      omega (arith, w.room, w.ends, ap (λ (o : Output). length o.bytes) put.all, all-kept (text ∷ texts) before)
-
-  stand : {to : ℕ} (e : after.next ≡ Ok to) → let w = written_all e in
-      after ≡ output (Ok (w.from + length w.bytes)) (put_at w.from w.bytes before.bytes)
-  stand e =
-      let w = written_all e in
-      put.all ∙ ap (λ next. put_all (text ∷ texts) (output next before.bytes)) w.starts
-      ∙ all-put w.joins w.from before.bytes w.room
-
-  pub writes : (Reads : List ℕ → Type 0) → ((bytes : List ℕ) → Joined (text ∷ texts) bytes → Reads bytes) → Writes (text ∷ texts) Reads before after
+-- so they stand from the place before up to the place behind
+module _ {text : Text} {texts : List Text} {before after : Output} {result : Result ⊤ WriteError} (put : Puts (text ∷ texts) before result after) where
+  pub writes : (Reads : List ℕ → Type 0) → ((bytes : List ℕ) → Joined (text ∷ texts) bytes → Reads bytes)
+      → Writes (text ∷ texts) Reads before result after
   writes Reads meant = record { puts = put; reads = read }
     where
-      read : (from to : ℕ) → before.next ≡ Ok from → after.next ≡ Ok to → Reads (between from to after.bytes)
-      read from to s e =
-          let w = written_all e in
-          let same : w.from ≡ from = cc in
-          let there = ap (λ (o : Output). between w.from to o.bytes) (stand e) ∙ put-stands w.from w.bytes before.bytes w.room to w.ends in
-          subst Reads (sym there ∙ ap (λ n. between n to after.bytes) same) (meant w.bytes w.joins)
+      read : result ≡ Ok tt → Reads (between before.at after.at after.bytes.now)
+      read e =
+          let w = all-written text texts (left (Ok tt) before) (sym (ap (λ (o : State). o.wrote) put.all) ∙ e) in
+          let ends = ap (λ (o : State). o.at) put.all ∙ w.ends in
+          let makes = ap (λ (o : State). o.bytes) (put.all ∙ all-put w.joins before.at before.bytes.now w.room) in
+          let stands = ap (between before.at after.at) makes ∙ put-stands before.at w.bytes before.bytes.now w.room after.at ends in
+          subst Reads (sym stands) (meant w.bytes w.joins)

@@ -16,19 +16,19 @@ as-program call table spare output p q = (rw (p, q) (prints_as_program call tabl
 pub returns-in-Ok-clause-print : goal.returns-in-Ok-clause-print
 returns-in-Ok-clause-print c =
     let print = call-printed _ c.plan_file.ensures c.in-Ok.is in
-    (as-program _ refl refl (omega (arith, c.requires)) print.0 print.1).0
+    (as-program _ refl refl (omega arith) print.0 print.1).0
 
 pub returns-in-Ok-clause-within : goal.returns-in-Ok-clause-within
 returns-in-Ok-clause-within c =
     let print = call-printed _ c.plan_file.ensures c.in-Ok.is in
-    (as-program _ refl refl (omega (arith, c.requires)) print.0 print.1).1
+    (as-program _ refl refl (omega arith) print.0 print.1).1
 
 pub returns-in-Err-clause-print : goal.returns-in-Err-clause-print
 returns-in-Err-clause-print c =
     let print = call-refused _ c.plan_file.ensures c.in-Err.is c.write_refusal.ensures in
-    (as-program _ refl refl (omega (arith, c.requires)) print.0 print.1).0
+    (as-program _ refl refl (omega arith) print.0 print.1).0
 
 pub returns-in-Err-clause-within : goal.returns-in-Err-clause-within
 returns-in-Err-clause-within c =
     let print = call-refused _ c.plan_file.ensures c.in-Err.is c.write_refusal.ensures in
-    (as-program _ refl refl (omega (arith, c.requires)) print.0 print.1).1
+    (as-program _ refl refl (omega arith) print.0 print.1).1

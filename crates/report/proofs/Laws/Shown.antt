@@ -3,26 +3,11 @@ use Rattle.std.specs.Prelude.{◌≡◌, ◌⊎◌, Bool, ◌&&◌, List, [], �
 use Rattle.std.proofs.Math.Path.{refl}
 use Rattle.std.proofs.Common.{inl, inr, drop_of_length-le}
 use Rattle.std.proofs.Math.Bool.{true, false, cond}
-use borrow.Author.Tests.{lt-ltb, le-ltb, le-leb, lt-leb, ne_eqb}
-use Rattle.rfc4180.specs.Bytes.{carriage_return, line_feed}
+use borrow.Author.Tests.{le-leb, lt-leb}
 use Rattle.rfc4180.proofs.Laws.Places.{bytes-from}
 use Rattle.rfc4180.specs.Text.{ascii}
 use Rattle.lines.specs.Putting.{plain}
-use Rattle.report.specs.Shown.{backslash, hex_digit, hex_escape, own_letter, escaped_by, escaped, closed_texts}
-
-module _ (n : ℕ) where
-  pub digit_small : n < 10 → hex_digit n ≡ 0x30 + n
-  unfolding hex_digit
-  digit_small h = rw (lt-ltb n 10 h)
-
-  pub digit_large : 10 ≤ n → hex_digit n ≡ 0x57 + n
-  unfolding hex_digit
-  digit_large h = rw (le-ltb n 10 h)
-
--- a byte's own escape
-pub letter_none : {b : ℕ} → (b ≡ carriage_return → ⊥) → (b ≡ line_feed → ⊥) → (b ≡ backslash → ⊥) → own_letter b ≡ None
-unfolding own_letter
-letter_none {b} return feed slash = rw (ne_eqb b carriage_return return, ne_eqb b line_feed feed, ne_eqb b backslash slash)
+use Rattle.report.specs.Shown.{backslash, hex_escape, own_letter, escaped_by, escaped, closed_texts}
 
 -- how a byte is shown, by the letter of its own escape
 module _ (b : ℕ) where

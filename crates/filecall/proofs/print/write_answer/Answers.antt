@@ -4,23 +4,26 @@ use Rattle.lines.specs.Laws.Putting.{then, then-error}
 use Rattle.lines.specs.Lines.{line_texts}
 use Rattle.filecall.proofs.print.write_answer.Goals as goal
 
-pub returns-in_err-at : goal.returns-in_err-at
+pub returns-in_err-write_field : goal.returns-in_err-write_field
 unfolding line_texts
-returns-in_err-at c = line_put _ (then-error _ c.in_err-at.ensures.puts c.from_residual.ensures.1)
+returns-in_err-write_field c = line_put _ (then-error _ c.in_err-write_field.was c.write_field.ensures.puts c.from_residual.ensures.1)
 
-pub returns-in_err-at-2 : goal.returns-in_err-at-2
+pub returns-in_err-write_number : goal.returns-in_err-write_number
 unfolding line_texts
-returns-in_err-at-2 c =
-    line_put _ (simp number-text (then c.in_ok-at.ensures.puts (then-error _ c.in_err-at-2.ensures.puts c.from_residual-in_err-at-2.ensures.1)))
+returns-in_err-write_number c =
+    let end = then-error _ c.in_err-write_number.was c.write_number.ensures.puts c.from_residual-in_err-write_number.ensures.1 in
+    line_put _ (simp number-text (then c.in_ok-write_field.was c.write_field.ensures.puts end))
 
-pub returns-in_err-at-3 : goal.returns-in_err-at-3
+pub returns-in_err-write_number-2 : goal.returns-in_err-write_number-2
 unfolding line_texts
-returns-in_err-at-3 c =
-    let numbers = then c.in_ok-at.ensures.puts c.in_ok-at-2.ensures.puts in
-    line_put _ (simp number-text (then numbers (then-error _ c.in_err-at-3.ensures.puts c.from_residual-in_err-at-3.ensures.1)))
+returns-in_err-write_number-2 c =
+    let front = then c.in_ok-write_field.was c.write_field.ensures.puts c.write_number.ensures.puts in
+    let end = then-error _ c.in_err-write_number-2.was c.write_number-2.ensures.puts c.from_residual-in_err-write_number-2.ensures.1 in
+    line_put _ (simp number-text (then c.in_ok-write_number.was front end))
 
 pub returns : goal.returns
 unfolding line_texts
 returns c =
-    let numbers = then (then c.in_ok-at.ensures.puts c.in_ok-at-2.ensures.puts) c.in_ok-at-3.ensures.puts in
-    line_put _ (simp number-text (then numbers c.write_number-3.ensures.puts))
+    let front = then c.in_ok-write_field.was c.write_field.ensures.puts c.write_number.ensures.puts in
+    let numbers = then c.in_ok-write_number.was front c.write_number-2.ensures.puts in
+    line_put _ (simp number-text (then c.in_ok-write_number-2.was numbers c.write_number-3.ensures.puts))

@@ -16,29 +16,35 @@ word-text : field (ascii "piece") ≡ plain (ascii "piece")
 unfolding ascii writable needs_quotes is_allowed asks_for_quotes class_of
 word-text = field-text (ascii "piece") refl ∙ ap some (written-plain (ascii "piece") refl)
 
-pub returns-in_err-at : goal.returns-in_err-at
+pub returns-in_err-write_bytes : goal.returns-in_err-write_bytes
 unfolding line_texts ascii
-returns-in_err-at c = line_put _ (rw word-text (then-error _ c.in_err-at.ensures.puts c.from_residual.ensures.1))
+returns-in_err-write_bytes c =
+    line_put _ (rw word-text (then-error _ c.in_err-write_bytes.was c.write_bytes.ensures.puts c.from_residual.ensures.1))
 
-pub returns-in_err-at-2 : goal.returns-in_err-at-2
+pub returns-in_err-write_bytes-2 : goal.returns-in_err-write_bytes-2
 unfolding line_texts ascii
-returns-in_err-at-2 c =
-    line_put _ (rw word-text (then c.in_ok-at.ensures.puts (then-error _ c.in_err-at-2.ensures.puts c.from_residual-in_err-at-2.ensures.1)))
+returns-in_err-write_bytes-2 c =
+    let end = then-error _ c.in_err-write_bytes-2.was c.write_bytes-2.ensures.puts c.from_residual-in_err-write_bytes-2.ensures.1 in
+    line_put _ (rw word-text (then c.in_ok-write_bytes.was c.write_bytes.ensures.puts end))
 
-pub returns-in_err-at-3 : goal.returns-in_err-at-3
+pub returns-in_err-write_field : goal.returns-in_err-write_field
 unfolding line_texts ascii
-returns-in_err-at-3 c =
-    let front = then c.in_ok-at.ensures.puts c.in_ok-at-2.ensures.puts in
-    line_put _ (rw word-text (then front (then-error _ c.in_err-at-3.ensures.puts c.from_residual-in_err-at-3.ensures.1)))
+returns-in_err-write_field c =
+    let front = then c.in_ok-write_bytes.was c.write_bytes.ensures.puts c.write_bytes-2.ensures.puts in
+    let end = then-error _ c.in_err-write_field.was c.write_field.ensures.puts c.from_residual-in_err-write_field.ensures.1 in
+    line_put _ (rw word-text (then c.in_ok-write_bytes-2.was front end))
 
-pub returns-in_err-at-4 : goal.returns-in_err-at-4
+pub returns-in_err-write_field-2 : goal.returns-in_err-write_field-2
 unfolding line_texts ascii
-returns-in_err-at-4 c =
-    let names = then (then c.in_ok-at.ensures.puts c.in_ok-at-2.ensures.puts) c.in_ok-at-3.ensures.puts in
-    line_put _ (rw word-text (then names (then-error _ c.in_err-at-4.ensures.puts c.from_residual-in_err-at-4.ensures.1)))
+returns-in_err-write_field-2 c =
+    let front = then c.in_ok-write_bytes.was c.write_bytes.ensures.puts c.write_bytes-2.ensures.puts in
+    let names = then c.in_ok-write_bytes-2.was front c.write_field.ensures.puts in
+    let end = then-error _ c.in_err-write_field-2.was c.write_field-2.ensures.puts c.from_residual-in_err-write_field-2.ensures.1 in
+    line_put _ (rw word-text (then c.in_ok-write_field.was names end))
 
 pub returns : goal.returns
 unfolding line_texts ascii
 returns c =
-    let names = then (then c.in_ok-at.ensures.puts c.in_ok-at-2.ensures.puts) (then c.in_ok-at-3.ensures.puts c.in_ok-at-4.ensures.puts) in
-    line_put _ (rw (word-text, number-text) (then names c.write_number.ensures.puts))
+    let front = then c.in_ok-write_bytes.was c.write_bytes.ensures.puts c.write_bytes-2.ensures.puts in
+    let names = then c.in_ok-write_bytes-2.was front (then c.in_ok-write_field.was c.write_field.ensures.puts c.write_field-2.ensures.puts) in
+    line_put _ (rw (word-text, number-text) (then c.in_ok-write_field-2.was names c.write_number.ensures.puts))

@@ -1,29 +1,26 @@
 -- The line is made aside, and put where it fits. Assumes nothing.
-use Rattle.std.proofs.Common.{arith}
+use Rattle.std.proofs.Common.{refl, rules, arith}
 use Rattle.rfc4180.specs.Text.{ascii}
-use Rattle.filecall.specs.Laws.RefusalPrint.{refusal-made, refusal-line, refusal-wrote}
+use Rattle.filecall.specs.Laws.RefusalPrint.{refusal-made, refusal-put, refusal-kept}
 use Rattle.filecall.proofs.print.write_refusal.Goals as goal
 
-pub unwrap-n-requires : goal.unwrap-n-requires
+pub unwrap-requires : goal.unwrap-requires
 unfolding ascii
-unwrap-n-requires c =
-    let made = refusal-made c.args.refusal c.from-number.ensures (omega arith) (omega arith) (omega arith) c.write_answer.ensures in
-    rw made.ends
+unwrap-requires c =
+    let made = refusal-made c.args.refusal c.new-made.ensures.front c.new-made.ensures.lent c.from-number.ensures (omega arith) (omega arith) (omega arith)
+    c.write_answer.ensures refl refl in
+    rw made.wrote
 
-pub slice_bounds-line-end : goal.slice_bounds-line-end
+pub returns-in-Ok : goal.returns-in-Ok
 unfolding ascii
-slice_bounds-line-end c =
-    let made = refusal-made c.args.refusal c.from-number.ensures (omega arith) (omega arith) (omega arith) c.write_answer.ensures in
-    omega (arith, (refusal-line made c.unwrap-n.ensures).2)
+returns-in-Ok c =
+    let made = refusal-made c.args.refusal c.new-made.ensures.front c.new-made.ensures.lent c.from-number.ensures (omega arith) (omega arith) (omega arith)
+    c.write_answer.ensures c.len-n.ensures (search rules) in
+    refusal-put c.args.refusal made.stands c.new-lent.ensures.front c.new-lent.ensures.lent c.write_bytes.ensures.puts (search rules) c.in-Ok.is made.ends
 
-pub slice_bounds-write_bytes-end : goal.slice_bounds-write_bytes-end
+pub returns-in-Err : goal.returns-in-Err
 unfolding ascii
-slice_bounds-write_bytes-end c =
-    let made = refusal-made c.args.refusal c.from-number.ensures (omega arith) (omega arith) (omega arith) c.write_answer.ensures in
-    (refusal-line made c.unwrap-n.ensures).1
-
-pub returns : goal.returns
-unfolding ascii
-returns c =
-    let made = refusal-made c.args.refusal c.from-number.ensures (omega arith) (omega arith) (omega arith) c.write_answer.ensures in
-    rw c.unwrap_or.ensures (refusal-wrote c.args.refusal (refusal-line made c.unwrap-n.ensures).0 c.write_bytes.ensures.puts)
+returns-in-Err c =
+    let made = refusal-made c.args.refusal c.new-made.ensures.front c.new-made.ensures.lent c.from-number.ensures (omega arith) (omega arith) (omega arith)
+    c.write_answer.ensures c.len-n.ensures (search rules) in
+    refusal-kept c.args.refusal made.stands c.new-lent.ensures.front c.new-lent.ensures.lent c.write_bytes.ensures.puts (search rules) c.in-Err.is

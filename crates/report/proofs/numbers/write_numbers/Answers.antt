@@ -8,7 +8,7 @@ use Rattle.lines.specs.Laws.Putting.{no_text}
 use Rattle.report.specs.Numbers.{starts_with, number_texts}
 use Rattle.report.proofs.Laws.Numbers.{texts-end, run_goes_on, run_ends}
 use Rattle.report.proofs.numbers.write_numbers.Goals as goal
-use Rattle.report.proofs.numbers.write_numbers.Goals.{then-not-starts_with+in_ok-to, else-not-starts_with}
+use Rattle.report.proofs.numbers.write_numbers.Goals.{then-not-starts_with+in_ok-write_run, else-not-starts_with}
 
 -- std asks the same of a list and one number
 begins : (n : ℕ) (list : List ℕ) → std_starts_with eqb list (n ∷ []) ≡ starts_with n list
@@ -26,23 +26,23 @@ pub loop-i-init : goal.loop-i-init
 unfolding number_texts
 loop-i-init c = (omega arith, all_left)
 
-pub returns-in_err-to : goal.returns-in_err-to
-returns-in_err-to c =
+pub returns-in_err-write_run : goal.returns-in_err-write_run
+returns-in_err-write_run c =
     let last = follows c.args.list.now c.loop-i.i _ c.loop-i-test.true c.starts_with.ensures.value c.if-not-starts_with.true in
-    put-error _ c.loop-i.invariant.1 (run_ends c.args.list.now c.loop-i.times c.loop-i.i c.loop-i-test.true last) c.in_err-to.ensures
-    c.from_residual.ensures.1
+    put-error _ c.loop-i.invariant.1 (run_ends c.args.list.now c.loop-i.times c.loop-i.i c.loop-i-test.true last) c.in_err-write_run.was
+    c.write_run.ensures c.from_residual.ensures.1
 
 pub loop-i-preserved : goal.loop-i-preserved
 loop-i-preserved c =
     let l = c.loop-i in
     elim c.if-not-starts_with.branch [
-      | then-not-starts_with+in_ok-to w ↦
+      | then-not-starts_with+in_ok-write_run w ↦
           let last = follows c.args.list.now l.i _ c.loop-i-test.true c.starts_with.ensures.value w.if-not-starts_with.true in
-          rw (w.out-is, w.to-is, w.times-is)
-          (omega arith, next-put l.invariant.1 (run_ends c.args.list.now l.times l.i c.loop-i-test.true last) w.in_ok-to.ensures)
+          rw (w.out-is, w.times-is)
+          (omega arith, next-put l.invariant.1 (run_ends c.args.list.now l.times l.i c.loop-i-test.true last) w.in_ok-write_run.was w.write_run.ensures)
       | else-not-starts_with w ↦
           let more = follows c.args.list.now l.i _ c.loop-i-test.true c.starts_with.ensures.value w.if-not-starts_with.false in
-          rw (w.out-is, w.to-is, w.times-is) (omega arith, rw (run_goes_on c.args.list.now l.times l.i c.loop-i-test.true more) at l.invariant.1)
+          rw (w.out-is, w.times-is) (omega arith, rw (run_goes_on c.args.list.now l.times l.i c.loop-i-test.true more) at l.invariant.1)
     ]
 
 pub returns : goal.returns

@@ -17,5 +17,6 @@ take-put_mid_on a k n xs ys within fits =
 
 pub loop-filled-preserved : goal.loop-filled-preserved
 loop-filled-preserved g c =
-    let joined = take-put_mid_on c.loop-filled.filled _ c.in_ok-got.got c.loop-filled.buffer c.read.new.buf c.loop-filled.invariant.0 c.in_ok-got.ensures.bound.0 in
+    let l = c.loop-filled in
+    let joined = take-put_mid_on l.filled _ c.in_ok-got.got l.buffer c.read.new.buf l.invariant.0 c.in_ok-got.ensures.bound.0 in
     (search rules, subst (Consumes _ _) joined (Consumes-trans _ _ _ _ _ c.loop-filled.invariant.1 c.in_ok-got.ensures.bytes.0))

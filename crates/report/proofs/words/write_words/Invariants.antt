@@ -1,10 +1,9 @@
 -- The texts of the words from the present byte on, with the numbers that are left, are left.
-use Rattle.std.proofs.Common.{drop, Ok}
+use Rattle.std.proofs.Common.{drop}
 use Rattle.lines.specs.Laws.Loops.{TextsLeft}
-use Rattle.lines.specs.Putting.{output}
 use Rattle.report.specs.Words.{word_texts}
 use Rattle.report.proofs.words.write_words.Given as goal
 
 abbrev pub invariant-loop-b : goal.invariant-loop-b
 invariant-loop-b l =
-    TextsLeft (word_texts (drop l.b-index l.words) l.left) (output (Ok l.to) l.out) (word_texts l.words l.numbers) (output (Ok l.at) l.fn.out)
+    TextsLeft (word_texts (drop l.b-index l.words) l.left) l.out (word_texts l.words l.numbers) l.fn.out
