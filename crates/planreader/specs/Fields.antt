@@ -1,9 +1,10 @@
 -- Where the fields of a record's text stand, and the text that a name is taken from.
 -- Assumes nothing.
-use Rattle.std.specs.Prelude.{◌≡◌, false, List, [], ℕ, ◌-◌, ◌≤◌, ◌<◌, length, take, drop, get_or}
+use Rattle.std.specs.Prelude.{◌≡◌, List, [], ℕ, ◌-◌, ◌≤◌, ◌<◌, length, take, drop, get_or}
 use Rattle.std.proofs.Math.Option.{none, some}
 use Rattle.rfc4180.specs.Fields.{raw_fields, field_value, field_values}
-use Rattle.csv_fields.specs.Spans.{holds_quote}
+use Rattle.csv_fields.specs.declared.FieldForm.TheVariants.{Part}
+use Rattle.csv_fields.specs.Spans.{value_form}
 use Rattle.planfile.specs.Bounds.{most_name_bytes}
 use Rattle.planreader.specs.declared.entry.FieldPlace.{FieldPlace}
 
@@ -14,14 +15,14 @@ pub record NameFor (value name : List ℕ) : Type 0 where
 
 -- where no field stands
 abbrev pub nowhere : FieldPlace
-nowhere = record { start = 0; end = 0; doubled = false }
+nowhere = record { start = 0; end = 0; form = Part }
 
--- a field stands at a place of a text, and holds a doubled quote or not
+-- a field stands at a place of a text, and its form is told there
 pub record Place (text : List ℕ) (place : FieldPlace) (field : List ℕ) : Type 0 where
   pub begins : place.start ≤ place.end
   pub ends : place.end ≤ length text
   pub stands : take (place.end - place.start) (drop place.start text) ≡ field
-  pub quotes : {value : List ℕ} → field_value field ≡ some value → place.doubled ≡ holds_quote value
+  pub formed : {value : List ℕ} → field_value field ≡ some value → place.form ≡ value_form value
 
 -- the first four of so many fields stand at these places of a text
 abbrev pub Places : (text : List ℕ) → List FieldPlace → (count : ℕ) → (fields : List (List ℕ)) → Type 0

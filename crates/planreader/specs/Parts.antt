@@ -1,6 +1,8 @@
 -- What the functions on fields, names and numbers return, in terms of the definitions of RFC 4180 and of the plan file.
 -- Assumes nothing.
-use Rattle.std.specs.Prelude.{◌≡◌, Bool, true, false, cond, None, Some, Ok, Err, List, [], ℕ, ◌≤◌, ◌<◌, drop, get_or}
+use Rattle.std.specs.Prelude.{◌≡◌, ◌⊎◌, true, false, cond, None, Some, Ok, Err, List, [], ℕ, ◌^◌, ◌≤◌, ◌<◌, drop, get_or}
+use Rattle.std.specs.Range.{range_inclusive_start, range_inclusive_end, range_inclusive_exhausted}
+use Rattle.std.specs.declared.ops.RangeInclusive.{RangeInclusive}
 use Rattle.std.proofs.Math.Option.{Option, none, some}
 use Rattle.rfc4180.specs.Fields.{raw_fields, field_value}
 use Rattle.rfc4180.specs.Records.{first_record}
@@ -19,14 +21,18 @@ ranged_by low high (some n) = cond (within low high n) (Some n) None
 unfoldable pub ranged_of : (low high : ℕ) → (text : List ℕ) → Ranged
 ranged_of low high text = ranged_by low high (number_of text)
 
--- the value of digits where it is at most the most, else some number above it; none where a byte is no digit
-unfoldable pub capped_by : (digits : Bool) → (text : List ℕ) → (most : ℕ) → Ranged → Type 0
-capped_by true text most (Some r) = (r ≤ most → r ≡ value_behind 0 text) × (most < r → most < value_behind 0 text)
-capped_by true text most None = ⊥
-capped_by false text most r = r ≡ None
+-- a range none of whose values was taken, and whose end fits 64 bits
+pub record Whole (range : RangeInclusive ℕ) : Type 0 where
+  pub fresh : range_inclusive_exhausted range ≡ false
+  pub fits : range_inclusive_end range < 2 ^ 64
 
-unfoldable pub capped_value : (text : List ℕ) → (most : ℕ) → Ranged → Type 0
-capped_value text most r = capped_by (all_digits text) text most r
+abbrev pub ranged_in : RangeInclusive ℕ → (text : List ℕ) → Ranged
+ranged_in range text = ranged_of (range_inclusive_start range) (range_inclusive_end range) text
+
+-- the value of digits; none where a byte is no digit, or where it does not fit 64 bits
+unfoldable pub value_read : (text : List ℕ) → Ranged → Type 0
+value_read text (Some n) = (all_digits text ≡ true) × (n ≡ value_behind 0 text)
+value_read text None = (all_digits text ≡ false) ⊎ (2 ^ 64 ≤ value_behind 0 text)
 
 -- four raw fields of a record's text, and their values
 pub record Valued (text : List ℕ) (x : FourFields) : Type 0 where

@@ -8,11 +8,11 @@ use Rattle.planning.specs.Quiet.{Quiet}
 use Rattle.planfile.specs.FilePlan.{FilePlan, engine_names, with_quiet}
 use Rattle.planfile.specs.Reading.{Read, accepted, fault, FourFields, read_quiet}
 use Rattle.planreader.specs.declared.FilePlan.{FilePlan as ByValue}
-use Rattle.planreader.specs.declared.quiet.Span.{Span}
+use Rattle.planning.specs.declared.QuietSpan.{QuietSpan as Span}
 use Rattle.planreader.specs.Plans.{names_in, quiet_in}
 
 -- a span that was read, as one of the plan
-abbrev pub quiet_by : Span → Quiet
+abbrev pub quiet_by : Span ℕ → Quiet
 quiet_by s = record { engine = s.engine; span = record { from = s.from; to = s.to } }
 
 -- how a quiet record is read behind engines of these names and these spans, whatever else the plan so far has
@@ -20,16 +20,16 @@ abbrev pub QuietReads : (names : List (List ℕ)) → List Quiet → FourFields 
 QuietReads names quiet x how = (f : FilePlan) → engine_names f ≡ names → f.quiet ≡ quiet → (r : ℕ) → read_quiet f r x ≡ how f r
 
 -- behind engines of these names and these spans the record adds a span that no check refuses there, or has that fault
-unfoldable pub SpanRead : (names : List (List ℕ)) → List Quiet → FourFields → Result Span Fault → Type 0
+unfoldable pub SpanRead : (names : List (List ℕ)) → List Quiet → FourFields → Result (Span ℕ) Fault → Type 0
 SpanRead names quiet x (Ok s) =
     (quiet_fault (length names) quiet (quiet_by s) ≡ none) × QuietReads names quiet x (λ f r. accepted (with_quiet f (quiet_by s)))
 SpanRead names quiet x (Err what) = QuietReads names quiet x (λ f r. fault what r)
 
 -- the column with a span stored behind the first n, and the plan by value with it
-unfoldable pub with_span : (n : ℕ) → Span → (column : List (List ℕ)) → List (List ℕ)
+unfoldable pub with_span : (n : ℕ) → Span ℕ → (column : List (List ℕ)) → List (List ℕ)
 with_span n s column = set column n (s.engine ∷ s.from ∷ s.to ∷ [])
 
-unfoldable pub plan_with_span : Span → ByValue → ByValue
+unfoldable pub plan_with_span : Span ℕ → ByValue → ByValue
 plan_with_span s p =
     record {
       mode = p.mode;
@@ -41,8 +41,8 @@ plan_with_span s p =
       deliveries = p.deliveries;
     }
 
--- a span is added as the reading has it, or the reading has that fault
+-- a span is added as the reading has it, or the reading has that fault and the plan stays
 unfoldable pub AddsQuiet : FourFields → (before after : ByValue) → Result (Unit {0}) Fault → Type 0
 AddsQuiet x before after (Ok done) =
-    (s : Span) × SpanRead (names_in before.engines) (quiet_in before.spans before.quiet) x (Ok s) × (after ≡ plan_with_span s before)
-AddsQuiet x before after (Err what) = SpanRead (names_in before.engines) (quiet_in before.spans before.quiet) x (Err what)
+    (s : Span ℕ) × SpanRead (names_in before.engines) (quiet_in before.spans before.quiet) x (Ok s) × (after ≡ plan_with_span s before)
+AddsQuiet x before after (Err what) = SpanRead (names_in before.engines) (quiet_in before.spans before.quiet) x (Err what) × (after ≡ before)

@@ -1,7 +1,10 @@
 -- What the functions on the records after record 1 return, in terms of the reading. The plan so far stands in a plan by value.
 -- Assumes nothing.
-use Rattle.std.specs.Prelude.{◌≡◌, Result, Ok, Err, List, map, ℕ, ◌≤◌, leb, length, drop}
-use Rattle.rfc4180.specs.Records.{further_records}
+use Rattle.std.specs.Prelude.{◌≡◌, Bool, true, false, nat_eq, Option, None, Some, Result, Ok, Err, List, map, ℕ, ◌≤◌, leb, length, drop}
+use Rattle.std.specs.Cmp.Lexicographic.{pointwise}
+use Rattle.rfc4180.specs.Text.{ascii}
+use Rattle.rfc4180.specs.Records.{first_record, further_records}
+use Rattle.csv_fields.specs.Spans.{record_span}
 use Rattle.planning.specs.declared.Fault.{Fault}
 use Rattle.planning.specs.declared.Fault.TheVariants.{NoEngine}
 use Rattle.planning.specs.declared.Refusal.{Refusal}
@@ -13,7 +16,20 @@ use Rattle.planfile.specs.FilePlan.{FilePlan, NamedEngine, NamedDelivery, begun}
 use Rattle.planfile.specs.Reading.{Read, refused, accepted, fault, require, fields_of, read_record, read_records, ◌>>=◌}
 use Rattle.planreader.specs.declared.FilePlan.{FilePlan as ByValue}
 use Rattle.planreader.specs.declared.items.Items.{Items}
+use Rattle.planreader.specs.declared.records.Kind.{Kind}
+use Rattle.planreader.specs.declared.records.Kind.TheVariants as kind
 use Rattle.planreader.specs.Columns.{Item, columns_of, engine_item, delivery_item, quiet_column_of, by_value}
+
+-- the kind of a word
+unfoldable pub kind_by : (engine quiet delivery : Bool) → Option Kind
+kind_by true quiet delivery = Some kind.Engine
+kind_by false true delivery = Some kind.Quiet
+kind_by false false true = Some kind.Delivery
+kind_by false false false = None
+
+unfoldable pub kind_named : (text : List ℕ) → Option Kind
+kind_named text =
+    kind_by (pointwise nat_eq text (ascii "engine")) (pointwise nat_eq text (ascii "quiet")) (pointwise nat_eq text (ascii "delivery"))
 
 -- columns that hold these items
 pub record Filled {most : ℕ} (items : List Item) (c : Items most) : Type 0 where
@@ -54,14 +70,20 @@ read_text f r text = do
   x ← fields_of r text
   read_record f r x
 
--- a record's text is read behind a plan as making it another one, which the plan by value then holds, or as having that fault
+-- a record's text is read behind a plan as making it another one, which the plan by value then holds, or as having that fault, and then it holds
+-- that plan still
 unfoldable pub AddsBehind : (text : List ℕ) → FilePlan → (after : ByValue) → Result (Unit {0}) Fault → Type 0
 AddsBehind text f after (Ok done) = (g : FilePlan) × ((r : ℕ) → read_text f r text ≡ accepted g) × PlanIn g after
-AddsBehind text f after (Err what) = (r : ℕ) → read_text f r text ≡ fault what r
+AddsBehind text f after (Err what) = ((r : ℕ) → read_text f r text ≡ fault what r) × PlanIn f after
 
 -- whatever plan the plan by value held before it
 unfoldable pub AddsRecord : (text : List ℕ) → (before after : ByValue) → Result (Unit {0}) Fault → Type 0
 AddsRecord text before after r = (f : FilePlan) → PlanIn f before → AddsBehind text f after r
+
+-- the record that begins at a place of a file is added so, and behind it the next one begins; or it has that fault
+unfoldable pub AddsNext : (file : List ℕ) → (from : ℕ) → (before after : ByValue) → Result ℕ Fault → Type 0
+AddsNext file from before after (Ok next) = AddsRecord (first_record (drop from file)).text before after (Ok tt) × (next ≡ (record_span file from).next)
+AddsNext file from before after (Err what) = AddsRecord (first_record (drop from file)).text before after (Err what)
 
 -- 8 after the last record
 unfoldable pub require_engine : Read FilePlan → Read FilePlan

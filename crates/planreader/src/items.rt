@@ -1,12 +1,13 @@
 // The engines or the deliveries of a file: columns of names and of two numbers each, filled from the front.
-ghost use Rattle.std.specs.Prelude.{◌≡◌, [], ◌≤◌};
+ghost use Rattle.std.specs.Prelude.{◌≡◌, []};
 ghost use Rattle.planreader.specs.Columns.{columns_of};
 ghost use Rattle.planreader.specs.Items.{fields_in, place_among, Ruled, Adds};
 ghost use Rattle.planreader.specs.Plans.{names_in};
 
 use crate::names::Name;
 use crate::{names, numeral};
-use planning::{Fault, MOST_ENERGY, MOST_FUEL, MOST_LIMIT, MOST_WATTS};
+use planning::Fault;
+use std::ops::RangeInclusive;
 
 // The engines or the deliveries of a plan, as specs/Columns' `columns_of` has them: a column of their names and of each of their two numbers, watts
 // and fuel or energy and limit. Behind the count a name has no byte, and a number is 0. They stand in columns, and no heap may hold them: the
@@ -28,27 +29,11 @@ pub(crate) struct ItemFields<'a> {
 }
 
 // What a kind of item has to keep: the ranges of its two numbers, by which alone the kinds differ.
-#[derive(Clone, Copy)]
+#[derive(Drop)]
 pub(crate) struct Rule {
-    pub low: u64,
-    pub high: u64,
-    pub low2: u64,
-    pub high2: u64,
+    pub first: RangeInclusive<u64>,
+    pub second: RangeInclusive<u64>,
 }
-
-pub(crate) const ENGINE: Rule = Rule {
-    low: 0,
-    high: MOST_WATTS,
-    low2: 0,
-    high2: MOST_FUEL,
-};
-
-pub(crate) const DELIVERY: Rule = Rule {
-    low: 1,
-    high: MOST_ENERGY,
-    low2: 1,
-    high2: MOST_LIMIT,
-};
 
 impl<const MOST: usize> Items<MOST> {
     // No items.
@@ -65,18 +50,18 @@ impl<const MOST: usize> Items<MOST> {
 
     // The place of a name among theirs.
     pub(crate) fn find(&self, name: &[u8]) -> Option<usize>
-        requires { self.now.count ≤ MOST }
         ensures { result ≡ place_among name.now (names_in self.now) }
     {
-        self.names[..self.count]
+        self.names
             .iter()
+            .take(self.count)
             .position(|other| name == other.bytes())
     }
 
     // Adds the item of a record: 7 for one too many, then its fields from the left.
-    pub(crate) fn add(&mut self, fields: ItemFields<'_>, rule: Rule) -> Result<(), Fault>
-        requires { Ruled rule × (self.old.count ≤ MOST) }
-        ensures { Adds rule (fields_in fields.entry) self.old self.new result }
+    pub(crate) fn add(&mut self, fields: ItemFields<'_>, rule: &Rule) -> Result<(), Fault>
+        requires { Ruled rule.now }
+        ensures { Adds rule.now (fields_in fields.entry) self.old self.new result }
     {
         if MOST <= self.count {
             return Err(Fault::Count);
@@ -84,8 +69,8 @@ impl<const MOST: usize> Items<MOST> {
         if !names::is_sound(fields.name) || self.find(fields.name).is_some() {
             return Err(Fault::Name);
         }
-        let first = numeral::in_range(fields.third, rule.low, rule.high).ok_or(Fault::Value)?;
-        let second = numeral::in_range(fields.fourth, rule.low2, rule.high2).ok_or(Fault::Value)?;
+        let first = numeral::in_range(fields.third, &rule.first).ok_or(Fault::Value)?;
+        let second = numeral::in_range(fields.fourth, &rule.second).ok_or(Fault::Value)?;
         let k = self.count;
         self.names[k] = Name::of(fields.name);
         self.firsts[k] = first;

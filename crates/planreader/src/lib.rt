@@ -19,6 +19,7 @@ use planning::{MOST_DELIVERIES, MOST_ENGINES, MOST_QUIET, Mode, Refusal};
 
 // The plan of a file by value, as specs/Columns' `by_value` has it. A quiet span has three numbers: its engine, counted from 1, FROM and TO; the spans
 // fill the list from the front, and 0 stands behind them: the allocation on numbers takes those of the spans one behind the other, as they stand.
+// They are an array with their count, as no heap may hold them.
 #[derive(Clone, Copy)]
 pub struct FilePlan {
     pub mode: Mode,

@@ -54,7 +54,7 @@ impl Name {
         ensures value { result.now ≡ self.now }
         ensures short { length self.now ≤ most_name_bytes }
     {
-        &self.bytes[..self.size as usize]
+        &self.bytes[..usize::from(self.size)]
     }
 }
 

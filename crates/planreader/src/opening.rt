@@ -1,7 +1,6 @@
 // The beginning of a file: its size, and record 1 with the plan's mode, minutes and allowance.
 ghost use Rattle.std.specs.Prelude.{◌≡◌};
-ghost use Rattle.planfile.specs.Reading.{read_mode};
-ghost use Rattle.planreader.specs.Opening.{mode_read, opening_read, read_opening, BeginsBy};
+ghost use Rattle.planreader.specs.Opening.{mode_named, opening_read, read_opening, FirstRead, BeginsBy};
 
 use crate::entry::Entry;
 use crate::numeral;
@@ -17,15 +16,14 @@ pub(crate) struct Opening {
 }
 
 // A mode by its word.
+#[tactic(auto, unfolding(crate::specs::Opening::mode_by, crate::specs::Opening::mode_named, rfc4180::specs::Text::ascii))]
 fn mode_of(text: &[u8]) -> Option<Mode>
-    ensures { mode_read result ≡ read_mode 1 text.now }
+    ensures { result ≡ mode_named text.now }
 {
-    if text == b"fixed".as_slice() {
-        Some(Mode::Fixed)
-    } else if text == b"shortest".as_slice() {
-        Some(Mode::Shortest)
-    } else {
-        None
+    match text {
+        b"fixed" => Some(Mode::Fixed),
+        b"shortest" => Some(Mode::Shortest),
+        _ => None,
     }
 }
 
@@ -37,8 +35,8 @@ fn read(entry: &Entry<'_>) -> Result<Opening, Fault>
         return Err(Fault::Kind);
     }
     let mode = mode_of(entry.part(1)).ok_or(Fault::Value)?;
-    let minutes = numeral::in_range(entry.part(2), 1, MOST_MINUTES).ok_or(Fault::Value)?;
-    let allowance = numeral::in_range(entry.part(3), 0, MOST_TRIES).ok_or(Fault::Value)?;
+    let minutes = numeral::in_range(entry.part(2), &(1..=MOST_MINUTES)).ok_or(Fault::Value)?;
+    let allowance = numeral::in_range(entry.part(3), &(0..=MOST_TRIES)).ok_or(Fault::Value)?;
     Ok(Opening {
         mode,
         minutes,
@@ -46,17 +44,20 @@ fn read(entry: &Entry<'_>) -> Result<Opening, Fault>
     })
 }
 
-// Reads the beginning of a file: 1, then record 1. Behind its values stands where record 2 begins.
+// Reads record 1 of a file: 2 and 3, then what it holds. Behind it record 2 begins.
+fn first(file: &[u8]) -> Result<(Opening, usize), Fault>
+    ensures { FirstRead file.now result }
+{
+    let (entry, next) = Entry::cut(file, 0)?;
+    Ok((read(&entry)?, next))
+}
+
+// Reads the beginning of a file: 1, then record 1.
 pub(crate) fn begin(file: &[u8]) -> Result<(Opening, usize), Refusal>
     ensures { BeginsBy file.now result }
 {
     if !(1..=MOST_BYTES).contains(&file.len()) {
-        return Err(Refusal {
-            fault: Fault::Size,
-            place: 0,
-        });
+        return Err(Fault::Size.at(0));
     }
-    let (entry, next) = Entry::cut(file, 0).map_err(|fault| Refusal { fault, place: 1 })?;
-    let opening = read(&entry).map_err(|fault| Refusal { fault, place: 1 })?;
-    Ok((opening, next))
+    first(file).map_err(|fault| fault.at(1))
 }

@@ -19,7 +19,8 @@ accepted_files =
     "\"plan\",\"fixed\",\"60\",\"0\"\r\nengine,\"a,b\",5,9\r\nengine,\"\"\"\",5,9\r\nengine,\" \",5,9\r\ndelivery,\"a,b\",15,4\r\n"
     "found,60,0,3\r\npiece,\"a,b\",\"a,b\",5\r\npiece,\"a,b\",\"\"\"\",5\r\npiece,\"a,b\", ,5\r\n"
     -- a name of 16 quotes, written in 34 bytes
-    ∷ example "plan,fixed,60,9\r\nengine,\"\"\"\"\"\"\"\"\"\"\"\"\"\"\"\"\"\"\"\"\"\"\"\"\"\"\"\"\"\"\"\"\"\",5,9\r\ndelivery,D,5,2" "found,60,0,1\r\npiece,D,\"\"\"\"\"\"\"\"\"\"\"\"\"\"\"\"\"\"\"\"\"\"\"\"\"\"\"\"\"\"\"\"\"\",5\r\n"
+    ∷ example "plan,fixed,60,9\r\nengine,\"\"\"\"\"\"\"\"\"\"\"\"\"\"\"\"\"\"\"\"\"\"\"\"\"\"\"\"\"\"\"\"\"\",5,9\r\ndelivery,D,5,2"
+    "found,60,0,1\r\npiece,D,\"\"\"\"\"\"\"\"\"\"\"\"\"\"\"\"\"\"\"\"\"\"\"\"\"\"\"\"\"\"\"\"\"\",5\r\n"
     -- no deliveries
     ∷ example "plan,shortest,60,0\r\nengine,E1,60,1000" "found,1,0,0\r\n"
     -- none and stopped print one line

@@ -1,9 +1,7 @@
 -- A number has one numeral, which is what is written of it: digits alone, and no more of them than the number's size asks for.
 -- Assumes nothing.
-use Rattle.std.specs.Prelude.{◌≡◌, refl, ◌↔◌, ◌⊎◌, ℕ, zero, suc, ◌+◌, ◌*◌, ◌-◌, ◌/◌, ◌%◌, ◌^◌, ◌≤◌, ◌<◌, true, false, List, [], ◌∷◌, ◌++◌, length, take, get_or}
-use Rattle.std.proofs.Common.{sym, ap, ap₂, ◌∙◌, subst, inl, inr, pow-suc, arith, append-nil, append_assoc, length-append, length-take-le, take-take, take_at, get_or-take, lt-ltb, le-ltb}
-use Rattle.std.proofs.Math.Seq.{take-length}
-use Rattle.std.proofs.lemmas.List.{get_or_at}
+use Rattle.std.specs.Prelude.{◌≡◌, refl, ◌↔◌, ◌⊎◌, ℕ, zero, suc, ◌+◌, ◌*◌, ◌-◌, ◌/◌, ◌%◌, ◌^◌, ◌≤◌, ◌<◌, true, false, List, [], ◌∷◌, ◌++◌, length}
+use Rattle.std.proofs.Common.{sym, ap, ap₂, ◌∙◌, subst, inl, inr, pow-suc, arith, append-nil, append_assoc, length-append, lt-ltb, le-ltb}
 use Rattle.rfc4180.specs.Grammar.{text_2D_7E}
 use Rattle.rfc4180.proofs.Laws.Classes.{text_class}
 use Rattle.rfc4180.specs.Writer.{needs_quotes, writable}
@@ -150,47 +148,3 @@ decimal-length = by_digits (λ n ds. (k : ℕ) → n < 10 ^ k → 1 ≤ k → le
     longer n ds l h (suc zero) m s = absurd (omega arith)
     longer n ds l h (suc (suc k)) m s =
         omega (arith, length-append ds ((digit_zero + n % 10) ∷ []), h (suc k) (omega (arith, pow-suc 10 (suc k))) (omega arith))
-
--- one digit below 10; from 10 on one more than n / 10 has
-pub decimal-length-one : (n : ℕ) → n < 10 → length (decimal n) ≡ 1
-decimal-length-one n l = ap length (decimal-one n l)
-
-pub decimal-length-more : (n : ℕ) → 10 ≤ n → length (decimal n) ≡ length (decimal (n / 10)) + 1
-decimal-length-more n l = ap length (decimal-more n l) ∙ length-append (decimal (n / 10)) ((digit_zero + n % 10) ∷ [])
-
--- ---- from the last digit to the first
-
--- m is what is left of n before the digit at k: the first k digits are those of m, or there are none
-abbrev pub LeftBefore : (n k m : ℕ) → Type 0
-LeftBefore n k m = 1 ≤ k → take k (decimal n) ≡ decimal m
-
-pub left-all : (n : ℕ) → LeftBefore n (length (decimal n)) n
-left-all n l = take-length (decimal n)
-
--- the digit at k is the last of what is left before k + 1, and what is left before it is a tenth of that
-module _ (n k m : ℕ) (inside : k < length (decimal n)) (left : LeftBefore n (k + 1) m) where
-  first : take (k + 1) (decimal n) ≡ decimal m
-  first = left (omega arith)
-
-  size : length (decimal m) ≡ k + 1
-  size = ap length (sym first) ∙ length-take-le (k + 1) (decimal n) (omega arith)
-
-  same_digit : get_or (decimal n) k 0 ≡ get_or (decimal m) k 0
-  same_digit = sym (get_or-take (k + 1) (decimal n) k 0 (omega arith)) ∙ ap (λ (ds : List ℕ). get_or ds k 0) first
-
-  same-front : take k (decimal n) ≡ take k (decimal m)
-  same-front = sym (take-take k (k + 1) (decimal n) (omega arith)) ∙ ap (take k) first
-
-  parts : (10 ≤ m) ⊎ (m < 10) → (get_or (decimal m) k 0 ≡ digit_zero + m % 10) × (1 ≤ k → take k (decimal m) ≡ decimal (m / 10))
-  parts (inl l) =
-      let front : length (decimal (m / 10)) ≡ k = omega (arith, decimal-length-more m l, size) in
-      rw (decimal-more m l) (get_or_at (decimal (m / 10)) (digit_zero + m % 10) [] 0 k front, λ p. take_at (decimal (m / 10)) _ k front)
-  parts (inr l) =
-      let none : k ≡ 0 = omega (arith, decimal-length-one m l, size) in
-      rw (decimal-one m l) (rw none (ap (◌+◌ digit_zero) (omega arith)), λ p. absurd (omega arith))
-
-  pub last_digit : get_or (decimal n) k 0 ≡ digit_zero + m % 10
-  last_digit = same_digit ∙ (parts (le-or-lt 10 m)).0
-
-  pub left-next : LeftBefore n k (m / 10)
-  left-next p = same-front ∙ (parts (le-or-lt 10 m)).1 p

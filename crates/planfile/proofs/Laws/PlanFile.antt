@@ -97,7 +97,8 @@ unfolding delivery_line
 delivery-lines {records} {es} {qs} {before} m [] = rw (append-nil records, append-nil before) m
 delivery-lines {records} {es} {qs} {before} m (d ∷ ds) =
     rw (← append_assoc records (delivery_line d ∷ []) (map delivery_line ds), ← append_assoc before (d ∷ []) ds)
-    (delivery-lines {records = records ++ delivery_line d ∷ []} {before = before ++ d ∷ []} (mixture-delivery m d (decimal-read d.delivery.energy) (decimal-read d.delivery.limit)) ds)
+    (delivery-lines {records = records ++ delivery_line d ∷ []} {before = before ++ d ∷ []}
+    (mixture-delivery m d (decimal-read d.delivery.energy) (decimal-read d.delivery.limit)) ds)
 
 module _ (es : List NamedEngine) (ds : List NamedDelivery) where
   abbrev names : List (List ℕ)

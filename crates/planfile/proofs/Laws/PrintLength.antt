@@ -66,7 +66,8 @@ piece-length delivery engine n d e l =
     word = unfold written ascii in refl
 
 -- lines that are no longer than the longest of a piece
-pub lines-length : (lines : List Line) → All (λ line. length (written_line line) ≤ longest_piece_line) lines → length (written_file lines) ≤ longest_piece_line * length lines
+pub lines-length : (lines : List Line) → All (λ line. length (written_line line) ≤ longest_piece_line) lines
+    → length (written_file lines) ≤ longest_piece_line * length lines
 unfolding written_file
 lines-length [] h = omega arith
 lines-length (line ∷ lines) h = omega (arith, length-append (written_line line) (written_file lines), h.0, lines-length lines h.1)
@@ -74,7 +75,8 @@ lines-length (line ∷ lines) h = omega (arith, length-append (written_line line
 -- ---- how long a print is
 
 -- line 1 has its word, at most 5, 10 and 2 digits, three commas, CR and LF
-answer-length : (minutes : ℕ) (r : Result) (lines : List Line) → minutes ≤ most_minutes → tries_of r ≤ most_tries → length lines ≤ most_engines + most_deliveries
+answer-length : (minutes : ℕ) (r : Result) (lines : List Line) → minutes ≤ most_minutes → tries_of r ≤ most_tries
+    → length lines ≤ most_engines + most_deliveries
     → All (λ line. length (written_line line) ≤ longest_piece_line) lines
     → length (written_file (answer_lines minutes r lines)) ≤ length (written (word_of (outcome_of r))) + 22 + longest_piece_line * length lines
 unfolding answer_lines written_file
@@ -138,8 +140,8 @@ module _ (f : FilePlan) (ranges : InRange (unnamed f)) {tries : ℕ} {table : Li
       → All (λ line. length (written_line line) ≤ longest_piece_line) (lines_of f (found tries table))
   unfolding lines_of
   found-short engines deliveries =
-      lines_good SoundName (λ n. n ≤ most_energy) (λ line. length (written_line line) ≤ longest_piece_line) piece-length (delivery_names f) (engine_names f) deliveries engines
-      (λ p i. piece_in (length f.engines) table p i)
+      lines_good SoundName (λ n. n ≤ most_energy) (λ line. length (written_line line) ≤ longest_piece_line) piece-length
+      (delivery_names f) (engine_names f) deliveries engines (λ p i. piece_in (length f.engines) table p i)
       (λ p i k l. rw (engine-count f)
       at (piece-most (unnamed f) ranges finds p i (omega (arith, delivery-count f, deliveries-named f)) (omega (arith, engine-count f, engines-named f))))
 

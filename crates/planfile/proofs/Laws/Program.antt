@@ -26,7 +26,8 @@ use Rattle.planning.specs.Tables.{over_front}
 use Rattle.planning.specs.Numbers.{within}
 use Rattle.planning.specs.Refusals.{fault_number}
 use Rattle.planfile.specs.Bounds.{most_bytes}
-use Rattle.planfile.specs.FileCall.{FileCall, printed, read_call, answer_by, answer_to_file, on_exit, file_output, print_length_by, print_length, print_output_by, print_output, program_by, program_print}
+use Rattle.planfile.specs.FileCall.{FileCall, printed, read_call, answer_by, answer_to_file, on_exit, file_output, print_length_by, print_length}
+use Rattle.planfile.specs.FileCall.{print_output_by, print_output, program_by, program_print}
 use Rattle.planfile.specs.FilePlan.{FilePlan, unnamed}
 use Rattle.planfile.proofs.Laws.Decimals.{decimal-read}
 use Rattle.planfile.proofs.Laws.Holding.{accepted-holds}
@@ -224,7 +225,8 @@ print-inside call = go (read_call call)
     by false print = omega arith
 
     go : (m : Read FilePlan)
-        → print_length_by (answer_by m) (length call.output) ≤ length (print_output_by (answer_by m) (on_exit m call.output (λ f. over_front (printed f) call.output)))
+        → print_length_by (answer_by m) (length call.output)
+        ≤ length (print_output_by (answer_by m) (on_exit m call.output (λ f. over_front (printed f) call.output)))
     go (refused refusal) = unfold print_length_by print_output_by answer_by on_exit in
         by (leb (length (refusal_print refusal)) (length call.output)) (refusal_print refusal)
     go (accepted f) = unfold print_length_by print_output_by answer_by on_exit in over (printed f) call.output

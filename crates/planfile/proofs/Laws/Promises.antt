@@ -23,7 +23,8 @@ use Rattle.planfile.proofs.Laws.Refusals.{refusal-placed}
 use Rattle.planfile.specs.Promises.{FaultInFile, FilePromised}
 use Rattle.planfile.specs.Reading.{Read, refused, accepted}
 use Rattle.planfile.proofs.Laws.Promises.Calls.{accepted-call, call-accepted, refused-call, file-fault}
-use Rattle.planfile.proofs.Laws.Promises.Answered.{table-after, spares-add, reads-back, front-taken, front_dropped, left-count, spare-after, found-result, print-lines}
+use Rattle.planfile.proofs.Laws.Promises.Answered.{table-after, spares-add, reads-back, front-taken, front_dropped, left-count, spare-after}
+use Rattle.planfile.proofs.Laws.Promises.Answered.{found-result, print-lines}
 
 -- ---- the result taken apart
 

@@ -14,7 +14,8 @@ use Rattle.planning.specs.Plan.{Within, QuietInRange, DeliveryInRange}
 use Rattle.planning.specs.Quiet.{Quiet, spans_of, fits}
 use Rattle.planfile.specs.FilePlan.{FilePlan, NamedEngine, NamedDelivery, engine_of, delivery_of, with_engine, with_quiet, with_delivery, engine_names, name_at}
 use Rattle.planfile.specs.Numerals.{Numeral}
-use Rattle.planfile.specs.Reading.{accepted, fault, same, FourFields, four_of, unless_broken, fields_of, place_of, Figures, read_engine, read_span, read_quiet, read_delivery, record_by, read_record}
+use Rattle.planfile.specs.Reading.{accepted, fault, same, FourFields, four_of, unless_broken, fields_of, place_of, Figures, read_engine, read_span}
+use Rattle.planfile.specs.Reading.{read_quiet, read_delivery, record_by, read_record}
 use Rattle.planfile.proofs.Laws.Listed.{Listed, item_iff}
 use Rattle.planfile.proofs.Laws.Tests.{same-iff, place-named, place-only, refused-not-accepted, accepted-iff, bind_iff, then-iff, require-iff, read-number-iff}
 

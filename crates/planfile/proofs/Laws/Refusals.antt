@@ -13,7 +13,8 @@ use Rattle.planning.specs.Plan.{Within}
 use Rattle.planfile.specs.FilePlan.{FilePlan, engine_names, delivery_names}
 use Rattle.planfile.specs.Numerals.{number_of}
 use Rattle.planfile.specs.Reading.{Read, refused, accepted, ◌>>=◌, fault, require, FourFields, four_of, unless_broken, fields_of, mode_by, read_mode}
-use Rattle.planfile.specs.Reading.{number_by, read_number, read_plan, read_item, read_engine, read_span, read_quiet, read_delivery, record_by, read_record, read_records, read_texts, read_file}
+use Rattle.planfile.specs.Reading.{number_by, read_number, read_plan, read_item, read_engine, read_span, read_quiet, read_delivery, record_by}
+use Rattle.planfile.specs.Reading.{read_record, read_records, read_texts, read_file}
 
 -- "Each refusal returns its number and the record counted from 1 (0 for 1, 8 and 9)": the places that a fault may have in a file of
 -- so many records; no place for 9, which is not a file's fault

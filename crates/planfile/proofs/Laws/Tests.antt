@@ -18,7 +18,8 @@ use Rattle.planfile.specs.FilePlan.{name_at}
 use Rattle.planfile.specs.Bounds.{least_name_byte, most_name_byte}
 use Rattle.planfile.specs.Holding.{SoundName, Unlike, mode_word}
 use Rattle.planfile.specs.Numerals.{digit_zero, digit_nine, value_behind, Numeral, numeral_zero, numeral_digits, all_digits, number_of}
-use Rattle.planfile.specs.Reading.{Read, refused, accepted, ◌>>=◌, fault, require, same, mode_by, read_mode, number_by, read_number, name_bytes, sound_name, unused, place_of}
+use Rattle.planfile.specs.Reading.{Read, refused, accepted, ◌>>=◌, fault, require, same, mode_by, read_mode, number_by, read_number, name_bytes}
+use Rattle.planfile.specs.Reading.{sound_name, unused, place_of}
 
 -- ---- texts and names
 

@@ -2,6 +2,7 @@
 -- Assumes nothing.
 use Rattle.std.specs.Prelude.{◌≡◌, refl, ℕ, ◌+◌, ◌-◌, ◌≤◌, ◌<◌, set, get_or, replicate}
 use Rattle.std.proofs.Math.Path.{sym, ap}
+use Rattle.std.proofs.Math.Nat.{sub-zero}
 use Rattle.std.proofs.Common.{ap₂, ◌∙◌, arith, length-append, take_at}
 use mathlib.Core.List.{List, [], ◌∷◌, ◌++◌, map, map-append}
 use Rattle.std.proofs.Math.ListN.{length, length-map}
@@ -45,9 +46,16 @@ module _ (most : ℕ) (items : List Item) (name : List ℕ) (v : Figures) (room 
       let count : length items + 1 ≡ length (items ++ item_of name v ∷ []) = omega (arith, length-append items (item_of name v ∷ [])) in
       rw (names-more, numbers-more (λ i. i.first), numbers-more (λ i. i.second), count)
 
--- columns that hold nothing
-pub filled-nothing : (most : ℕ) → Filled [] (columns_of most [])
-filled-nothing most = record { room = omega arith; short = tt; columns = refl }
+-- names without a byte and zeros hold nothing
+abbrev pub empty_columns : (most : ℕ) → Items most
+empty_columns most = record { count = 0; names = replicate most []; firsts = replicate most 0; seconds = replicate most 0 }
+
+pub columns-nothing : (most : ℕ) → empty_columns most ≡ columns_of most []
+unfolding columns_of unnamed_behind padded
+columns-nothing most = rw (sub-zero most)
+
+pub filled-nothing : (most : ℕ) → Filled [] (empty_columns most)
+filled-nothing most = record { room = omega arith; short = tt; columns = columns-nothing most }
 
 -- columns with one item more
 pub filled_more : {most : ℕ} {items : List Item} {c : Items most} (name : List ℕ) (v : Figures) → Filled items c → length items < most

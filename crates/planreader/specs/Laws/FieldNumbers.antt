@@ -6,7 +6,8 @@ use Rattle.std.proofs.lemmas.Bool.{false≢true}
 use Rattle.std.proofs.Math.Option.{Option, none, some}
 use Rattle.rfc4180.specs.Bytes.{quote, comma, carriage_return, line_feed}
 use Rattle.rfc4180.specs.Fields.{field_value}
-use Rattle.rfc4180.specs.Grammar.{Escaped, escaped-end, escaped-text, escaped-comma, escaped_cr, escaped_lf, escaped-quote, Field, field-escaped, field_non_escaped}
+use Rattle.rfc4180.specs.Grammar.{Escaped, escaped-end, escaped-text, escaped-comma, escaped_cr, escaped_lf, escaped-quote, Field, field-escaped}
+use Rattle.rfc4180.specs.Grammar.{field_non_escaped}
 use Rattle.rfc4180.proofs.Laws.Fields.{field-sound}
 use Rattle.csv_fields.specs.Laws.Parts.{inside-escaped, inside-text}
 use Rattle.csv_fields.specs.Spans.{inside_of}

@@ -1,9 +1,10 @@
 -- How texts are compared and names are tested and found, and the text that a field's name is taken from.
 -- Assumes nothing.
-use Rattle.std.specs.Prelude.{◌≡◌, refl, ◌⊎◌, ℕ, suc, ◌+◌, ◌≤◌, ◌<◌, Bool, true, false, cond, not, ◌&&◌, Option, None, Some, Ok, Err, length, take, drop, leb, nat_eq}
-use Rattle.std.specs.Cmp.Lexicographic.{pointwise, same_text, other_text}
+use Rattle.std.specs.Prelude.{◌≡◌, refl, ◌⊎◌, ℕ, suc, ◌+◌, ◌≤◌, ◌<◌, Bool, true, false, cond, not, ◌&&◌, Option, None, Some, Ok, Err, length, take}
+use Rattle.std.specs.Prelude.{drop, leb, nat_eq}
+use Rattle.std.specs.Cmp.Lexicographic.{pointwise}
 use Rattle.std.specs.List.{position_or_len, list_all}
-use Rattle.std.proofs.Common.{sym, ap, ◌∙◌, inl, inr, arith}
+use Rattle.std.proofs.Common.{ap, ◌∙◌, inl, inr, arith}
 use Rattle.std.specs.Option.{is_some}
 use Rattle.std.proofs.lemmas.Bool.{lt-ltb, le-ltb}
 use Rattle.std.proofs.lemmas.List.Recursion.{is_position_or_len}
@@ -11,18 +12,20 @@ use Rattle.std.proofs.Math.Option.{some}
 use Rattle.std.proofs.Math.Bool.{and-false}
 use mathlib.Core.List.{List, [], ◌∷◌}
 use Rattle.std.proofs.Math.Seq.{take-append_seam}
+use Rattle.csv_fields.specs.declared.FieldForm.TheVariants.{Part}
 use Rattle.csv_fields.specs.declared.UndoError.{UndoError}
 use Rattle.csv_fields.specs.Results.{Undone}
 use Rattle.csv_fields.specs.Laws.Parts.{inside-escaped, inside-text}
 use Rattle.csv_fields.specs.Promises.{HandsPart, Undoes}
-use Rattle.csv_fields.specs.Spans.{inside_of, holds_quote}
+use Rattle.csv_fields.specs.Spans.{inside_of, holds_quote, form_by, value_form}
 use Rattle.rfc4180.specs.Fields.{field_value}
-use Rattle.rfc4180.specs.Grammar.{Escaped, escaped-end, escaped-text, escaped-comma, escaped_cr, escaped_lf, escaped-quote, Field, field-escaped, field_non_escaped}
+use Rattle.rfc4180.specs.Grammar.{Escaped, escaped-end, escaped-text, escaped-comma, escaped_cr, escaped_lf, escaped-quote, Field, field-escaped}
+use Rattle.rfc4180.specs.Grammar.{field_non_escaped}
 use Rattle.rfc4180.proofs.Laws.Fields.{field-sound}
 use Rattle.planning.proofs.Laws.Finite.Decisions.{le-or-lt}
 use Rattle.planning.specs.Numbers.{within}
 use Rattle.planfile.specs.Bounds.{most_name_bytes, least_name_byte, most_name_byte}
-use Rattle.planfile.proofs.Laws.Tests.{same-iff, used-place, unused-place}
+use Rattle.planfile.proofs.Laws.Tests.{used-place, unused-place}
 use Rattle.planfile.specs.Reading.{same, name_bytes, sound_name, unused, place_of}
 use Rattle.planreader.specs.Items.{place_among}
 use Rattle.planreader.specs.Laws.Parts.{within-below, within-above}
@@ -32,13 +35,11 @@ use Rattle.planreader.specs.Fields.{NameFor}
 
 -- the library's comparison of texts is that of the reading
 pub pointwise-same : (text other : List ℕ) → pointwise nat_eq text other ≡ same text other
-pointwise-same text other = go (pointwise nat_eq text other) (same text other) refl refl
-  where
-    go : (t u : Bool) → pointwise nat_eq text other ≡ t → same text other ≡ u → t ≡ u
-    go true true p q = refl
-    go true false p q = sym ((sym q) ∙ (same-iff text other).1 (same_text text other (sym p)))
-    go false true p q = absurd (other_text text other (sym p) ((same-iff text other).0 q))
-    go false false p q = refl
+unfolding same
+pointwise-same [] [] = refl
+pointwise-same [] (b ∷ bs) = refl
+pointwise-same (a ∷ rest) [] = refl
+pointwise-same (a ∷ rest) (b ∷ bs) = ap (λ (t : Bool). nat_eq a b && t) (pointwise-same rest bs)
 
 -- texts of different lengths are not the same
 pub same-lengths : (text other : List ℕ) → (length text ≡ length other → ⊥) → same text other ≡ false
@@ -48,12 +49,9 @@ same-lengths [] (b ∷ bs) ne = refl
 same-lengths (a ∷ rest) [] ne = refl
 same-lengths (a ∷ rest) (b ∷ bs) ne = rw (same-lengths rest bs (λ e. ne (ap suc e)), and-false)
 
--- as a function that compares says it, of a word in the file
-pub compared : {t : Bool} {word : List ℕ} (text other : List ℕ) → t ≡ pointwise nat_eq text other → other ≡ word → t ≡ same text word
-compared text other e is = e ∙ pointwise-same text other ∙ ap (same text) is
-
+-- as a function that finds two texts unlike says it, of a word in the file
 pub contrasted : (t : Bool) {word : List ℕ} (text other : List ℕ) → t ≡ not (pointwise nat_eq text other) → other ≡ word → not t ≡ same text word
-contrasted t text other e is = ap not e ∙ twice (pointwise nat_eq text other) ∙ compared text other refl is
+contrasted t text other e is = ap not e ∙ twice (pointwise nat_eq text other) ∙ pointwise-same text other ∙ ap (same text) is
   where
     twice : (t : Bool) → not (not t) ≡ t
     twice true = refl
@@ -120,10 +118,17 @@ module _ (name : List ℕ) (names : List (List ℕ)) where
       go None e = unused-place name names (placed-none e)
       go (Some k) e = used-place name names (omega (arith, placed-some e))
 
-  -- as functions that test it say it
-  pub name_told : {sound used : Bool} → sound ≡ sound_name name → used ≡ is_some (place_among name names)
-      → (sound_name name && unused name names) ≡ (sound && not used)
-  name_told p q = rw (p, q, unused-placed)
+  -- as functions that test it say it: it is sound and new, unsound, or used
+  module _ {sound : Bool} (p : sound ≡ sound_name name) where
+    pub name-unsound : sound ≡ false → false ≡ (sound_name name && unused name names)
+    name-unsound e = rw (← p, e)
+
+    module _ {used : Bool} (q : used ≡ is_some (place_among name names)) where
+      pub name-new : sound ≡ true → used ≡ false → true ≡ (sound_name name && unused name names)
+      name-new e f = rw (unused-placed, ← p, ← q, e, f)
+
+      pub name-used : sound ≡ true → used ≡ true → false ≡ (sound_name name && unused name names)
+      name-used e f = rw (unused-placed, ← p, ← q, e, f)
 
 -- ---- the text that a field's name is taken from
 
@@ -140,11 +145,16 @@ inside-longer : {raw value : List ℕ} → Field raw value → length value ≤ 
 inside-longer (field-escaped {inside = inside} r) = rw (inside-escaped inside) (escaped-longer r)
 inside-longer (field_non_escaped r) = rw (inside-text r) (omega arith)
 
+no_quote : (has_quote : Bool) → form_by has_quote ≡ Part → has_quote ≡ false
+unfolding form_by
+no_quote true e = let z : ◌≡◌ {A = ℕ} 0 1 = cc in absurd (omega arith)
+no_quote false e = refl
+
 module _ (raw value part : List ℕ) (reads : field_value raw ≡ some value) (hands : HandsPart raw part) where
   -- without a doubled quote: the part
-  pub name-part : holds_quote value ≡ false → NameFor value part
+  pub name-part : value_form value ≡ Part → NameFor value part
   name-part single =
-      let same_text = hands.value (field-sound raw value reads) single in
+      let same_text = hands.value (field-sound raw value reads) (no_quote (holds_quote value) single) in
       record { short = λ l. same_text; long = λ l. rw same_text l }
 
   -- undone into a buffer that a name fits, or too long: so is the part

@@ -1,7 +1,7 @@
 -- Lists made longer by one value, filled from the front. Assumes nothing.
-use Rattle.std.specs.Prelude.{◌≡◌, List, [], ◌∷◌, ◌++◌, ℕ, zero, suc, ◌+◌, ◌-◌, ◌≤◌, ◌<◌, length, take, drop, set, replicate}
+use Rattle.std.specs.Prelude.{◌≡◌, List, [], ◌∷◌, ◌++◌, ℕ, suc, ◌+◌, ◌-◌, ◌≤◌, ◌<◌, length, take, drop, set, replicate}
 use Rattle.std.proofs.Common.{sym, ap, ◌∙◌, arith, length-append, length-take}
-use Rattle.std.proofs.lemmas.List.{set_at}
+use Rattle.std.proofs.lemmas.List.{set_at, drop-replicate}
 use Rattle.std.proofs.Math.Seq.{append_snoc}
 use Rattle.planning.proofs.Laws.Padded.{length-padded}
 use Rattle.planning.specs.Tables.{padded}
@@ -19,16 +19,10 @@ pub padded-set : (m n : ℕ) (xs : List ℕ) (v : ℕ) → n ≡ length xs → n
 unfolding padded
 padded-set m n xs v count room = stored-behind 0 m n xs v count room
 
--- zeros behind which some stand
-drop-zeros : (l n : ℕ) → drop {A = ℕ} l (replicate n 0) ≡ replicate (n - l) 0
-drop-zeros zero n = let all : n ≡ n - 0 = omega arith in ap (λ (k : ℕ). replicate k 0) all
-drop-zeros (suc l) zero = let none : 0 ≡ 0 - suc l = omega arith in ap (λ (k : ℕ). replicate k 0) none
-drop-zeros (suc l) (suc n) = let less : n - l ≡ suc n - suc l = omega arith in drop-zeros l n ∙ ap (λ (k : ℕ). replicate k 0) less
-
 -- a text at the front of zeros
 pub padded-front : (m : ℕ) (xs : List ℕ) → xs ++ drop {A = ℕ} (length xs) (replicate m 0) ≡ padded m xs
 unfolding padded
-padded-front m xs = ap (λ (zs : List ℕ). xs ++ zs) (drop-zeros (length xs) m)
+padded-front m xs = ap (λ (zs : List ℕ). xs ++ zs) (drop-replicate (length xs) m 0)
 
 -- how many of a list count is how long that front is
 pub front-size : (m size : ℕ) (xs : List ℕ) → size ≤ m → xs ≡ padded m (take size xs) → length (take size xs) ≡ size

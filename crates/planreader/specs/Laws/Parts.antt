@@ -1,8 +1,10 @@
 -- What the inner functions of the reading come to: how digits are read one by one up to the most, and what a number in its range is then read as.
 -- Assumes nothing.
-use Rattle.std.specs.Prelude.{None, Some, ◌≡◌, refl, ◌⊎◌, ℕ, ◌+◌, ◌*◌, ◌-◌, ◌≤◌, ◌<◌, Bool, true, false, cond, ◌&&◌, List, [], ◌∷◌, length, get_or, leb}
+use Rattle.std.specs.Prelude.{None, Some, ◌≡◌, refl, ◌⊎◌, ℕ, ◌+◌, ◌*◌, ◌-◌, ◌^◌, ◌≤◌, ◌<◌, Bool, true, false, cond, ◌&&◌, List, [], ◌∷◌, length, get_or, leb}
 use Rattle.std.specs.Bool.{then_some}
-use Rattle.std.proofs.Common.{sym, ◌∙◌, inl, inr, zero-add, arith, le-leb}
+use Rattle.std.specs.Range.{range_inclusive_start, range_inclusive_end}
+use Rattle.std.specs.declared.ops.RangeInclusive.{RangeInclusive}
+use Rattle.std.proofs.Common.{sym, ◌∙◌, inl, inr, zero-add, arith, le-leb, true≢false}
 use Rattle.std.proofs.Math.Path.{ap}
 use Rattle.std.proofs.Math.Bool.{and-true, and-false}
 use Rattle.std.proofs.lemmas.Bool.{lt-leb}
@@ -11,7 +13,7 @@ use Rattle.planning.proofs.Laws.Finite.Decisions.{le-or-lt}
 use Rattle.planning.specs.Numbers.{within}
 use Rattle.planfile.specs.Numerals.{digit_zero, digit_nine, value_behind, all_digits, number_of}
 use Rattle.planreader.specs.Results.{Ranged}
-use Rattle.planreader.specs.Parts.{ranged_by, ranged_of, capped_by, capped_value}
+use Rattle.planreader.specs.Parts.{ranged_by, ranged_of, ranged_in, value_read}
 use Rattle.planfile.specs.Reading.{Read, accepted, ◌>>=◌, fault, require, number_by, read_number}
 use Rattle.planning.specs.declared.Fault.TheVariants.{Value as ValueFault}
 
@@ -38,44 +40,31 @@ unfolding value_behind
 value-least n [] = omega arith
 value-least n (d ∷ ds) = omega (arith, value-least (n * 10 + (d - digit_zero)) ds)
 
--- n is the value of the digits before the rest where it is at most the most, else the text's value is above the most as well
-pub record Capped (text rest : List ℕ) (most n : ℕ) : Type 0 where
+-- n is the value of the digits before the rest
+pub record Behind (text rest : List ℕ) (n : ℕ) : Type 0 where
   pub digits : all_digits text ≡ all_digits rest
-  pub value : n ≤ most → value_behind n rest ≡ value_behind 0 text
-  pub above : most < n → most < value_behind 0 text
+  pub value : value_behind n rest ≡ value_behind 0 text
 
-pub capped-start : (text : List ℕ) (most : ℕ) → Capped text text most 0
-capped-start text most = record { digits = refl; value = λ l. refl; above = λ l. absurd (omega arith) }
+module _ {text rest : List ℕ} {n b : ℕ} (c : Behind text (b ∷ rest) n) where
+  -- a digit more, whose value fits or does not
+  pub digit-behind : digit_zero ≤ b → b ≤ digit_nine → Behind text rest (n * 10 + (b - digit_zero))
+  unfolding all_digits value_behind
+  digit-behind low high = record { digits = c.digits ∙ rw (within_both digit_zero digit_nine b low high); value = c.value }
 
--- a digit more
-digit_read : {text rest : List ℕ} {most n b : ℕ} → Capped text (b ∷ rest) most n → digit_zero ≤ b → b ≤ digit_nine → all_digits text ≡ all_digits rest
-unfolding all_digits
-digit_read {b = b} c low high = c.digits ∙ rw (within_both digit_zero digit_nine b low high)
+  pub value-over : 2 ^ 64 ≤ n * 10 + (b - digit_zero) → value_read text None
+  unfolding value_read value_behind
+  value-over over = inr (omega (arith, value-least (n * 10 + (b - digit_zero)) rest, c.value))
 
-pub capped_digit : {text rest : List ℕ} {most n b : ℕ} → Capped text (b ∷ rest) most n → digit_zero ≤ b → b ≤ digit_nine → n ≤ most
-    → Capped text rest most (n * 10 + (b - digit_zero))
-unfolding value_behind
-capped_digit {rest = rest} {n = n} {b = b} c low high l =
-    record {
-      digits = digit_read c low high;
-      value = λ m. c.value l;
-      above = λ m. omega (arith, value-least (n * 10 + (b - digit_zero)) rest, c.value l);
-    }
+  -- or a byte that is no digit
+  pub no_digit : (b < digit_zero) ⊎ (digit_nine < b) → value_read text None
+  unfolding value_read all_digits
+  no_digit (inl l) = inl (rw (c.digits, within-below digit_zero digit_nine b l) refl)
+  no_digit (inr l) = inl (rw (c.digits, within-above digit_zero digit_nine b l) refl)
 
-pub capped-over : {text rest : List ℕ} {most n b : ℕ} → Capped text (b ∷ rest) most n → digit_zero ≤ b → b ≤ digit_nine → most < n
-    → Capped text rest most n
-capped-over c low high l = record { digits = digit_read c low high; value = λ m. absurd (omega arith); above = c.above }
-
--- the last digit is read, or a byte that is no digit
-pub capped-end : {text : List ℕ} {most n : ℕ} → Capped text [] most n → capped_value text most (Some n)
-unfolding capped_value capped_by all_digits value_behind
-capped-end c = rw c.digits (λ l. c.value l, c.above)
-
-pub capped-other : {text rest : List ℕ} {most n b : ℕ} → Capped text (b ∷ rest) most n → (b < digit_zero) ⊎ (digit_nine < b)
-    → capped_value text most None
-unfolding capped_value capped_by all_digits
-capped-other {b = b} c (inl l) = rw (c.digits, within-below digit_zero digit_nine b l) refl
-capped-other {b = b} c (inr l) = rw (c.digits, within-above digit_zero digit_nine b l) refl
+-- the last digit is read
+pub value-end : {text : List ℕ} {n : ℕ} → Behind text [] n → value_read text (Some n)
+unfolding value_read all_digits value_behind
+value-end c = (c.digits, c.value)
 
 -- ---- numbers in their range
 
@@ -107,38 +96,25 @@ ranged_leading_zero low high [] e l = refl
 ranged_leading_zero low high (d ∷ []) e l = absurd (omega arith)
 ranged_leading_zero low high (d ∷ c ∷ ds) e l = rw (within-below (digit_zero + 1) digit_nine d (omega arith))
 
--- any other text by its value, where that is at most the most
-value-ranged : (low high r : ℕ) (text : List ℕ) (digits : Bool) → capped_by digits text high (Some r)
-    → ranged_by low high (cond digits (some (value_behind 0 text)) none) ≡ cond (within low high r) (Some r) None
-unfolding ranged_by capped_by
-value-ranged low high r text false h = absurd (cc)
-value-ranged low high r text true h = go (le-or-lt r high)
-  where
-    go : (r ≤ high) ⊎ (high < r)
-        → cond (within low high (value_behind 0 text)) (Some (value_behind 0 text)) None ≡ cond (within low high r) (Some r) None
-    go (inl l) = rw (h.0 l)
-    go (inr l) = rw (within-above low high r l, within-above low high (value_behind 0 text) (h.1 l))
-
+-- any other text by its value
 module _ (low high : ℕ) (text : List ℕ) (some_byte : 1 ≤ length text) (lead : get_or text 0 0 ≡ digit_zero → length text ≤ 1) where
-  pub ranged-number : (r : ℕ) → capped_value text high (Some r) → ranged_of low high text ≡ cond (within low high r) (Some r) None
-  unfolding ranged_of capped_value
-  ranged-number r capped = ap (ranged_by low high) (number_digits text some_byte lead) ∙ value-ranged low high r text (all_digits text) capped
-
-  pub ranged-other : capped_value text high None → ranged_of low high text ≡ None
-  unfolding ranged_of ranged_by capped_value capped_by
-  ranged-other capped = ap (ranged_by low high) (number_digits text some_byte lead) ∙ no-digits (all_digits text) capped
+  pub ranged-number : (n : ℕ) → value_read text (Some n) → ranged_of low high text ≡ then_some (leb low n && leb n high) n
+  unfolding ranged_of ranged_by value_read within
+  ranged-number n (digits, value) = ap (ranged_by low high) (number_digits text some_byte lead) ∙ rw (digits, ← value) (chosen (leb low n && leb n high))
     where
-      no-digits : (digits : Bool) → capped_by digits text high None → ranged_by low high (cond digits (some (value_behind 0 text)) none) ≡ None
-      no-digits true h = absurd h
-      no-digits false h = refl
+      chosen : (t : Bool) → cond t (Some n) None ≡ then_some t n
+      chosen true = refl
+      chosen false = refl
 
-  pub ranged-tested : (r : ℕ) → capped_value text high (Some r) → (t : Bool) → t ≡ (leb low r && leb r high) → then_some t r ≡ ranged_of low high text
-  unfolding within
-  ranged-tested r capped t test = sym (ranged-number r capped ∙ go t test)
+  pub ranged-other : high < 2 ^ 64 → value_read text None → ranged_of low high text ≡ None
+  unfolding ranged_of ranged_by value_read
+  ranged-other fits read = ap (ranged_by low high) (number_digits text some_byte lead) ∙ go (all_digits text) refl read
     where
-      go : (t : Bool) → t ≡ (leb low r && leb r high) → cond (leb low r && leb r high) (Some r) None ≡ then_some t r
-      go true e = rw (← e)
-      go false e = rw (← e)
+      go : (digits : Bool) → all_digits text ≡ digits → (all_digits text ≡ false) ⊎ (2 ^ 64 ≤ value_behind 0 text)
+          → ranged_by low high (cond digits (some (value_behind 0 text)) none) ≡ None
+      go false is h = refl
+      go true is (inl e) = absurd (true≢false (sym is ∙ e))
+      go true is (inr over) = rw (within-above low high (value_behind 0 text) (omega arith))
 
 -- ---- the reading
 
@@ -161,3 +137,12 @@ number-by-ranged low high r (some n) = required (within low high n) r n
 pub read-by-ranged : (low high r : ℕ) (text : List ℕ) → read_number low high r text ≡ by_ranged r (ranged_of low high text)
 unfolding read_number ranged_of
 read-by-ranged low high r text = number-by-ranged low high r (number_of text)
+
+-- in a range by its two ends
+pub by-ends : (range : RangeInclusive ℕ) (text : List ℕ) {low high : ℕ} → range_inclusive_start range ≡ low → range_inclusive_end range ≡ high → {o : Ranged}
+    → o ≡ ranged_in range text → o ≡ ranged_of low high text
+by-ends range text low high e = e ∙ rw (low, high)
+
+pub read-in-range : (range : RangeInclusive ℕ) (r : ℕ) (text : List ℕ)
+    → read_number (range_inclusive_start range) (range_inclusive_end range) r text ≡ by_ranged r (ranged_in range text)
+read-in-range range r text = read-by-ranged (range_inclusive_start range) (range_inclusive_end range) r text

@@ -13,13 +13,13 @@ use Rattle.planning.specs.declared.Refusal.{Refusal}
 use Rattle.planning.specs.declared.Mode.{Mode}
 use Rattle.planning.specs.Bounds.{most_engines, most_deliveries}
 use Rattle.planfile.specs.FilePlan.{FilePlan, begun}
-use Rattle.planfile.specs.Reading.{Read, refused, accepted, ◌>>=◌, fault, require, fields_of, read_records}
+use Rattle.planfile.specs.Reading.{Read, refused, accepted, ◌>>=◌, fault, require, read_records}
 use Rattle.planreader.specs.declared.FilePlan.{FilePlan as ByValue}
 use Rattle.planreader.specs.Columns.{engine_item, by_value, reading_of}
-use Rattle.planreader.specs.Laws.Columns.{filled-nothing, filled-count}
+use Rattle.planreader.specs.Laws.Columns.{columns-nothing, filled-nothing, filled-count}
 use Rattle.planreader.specs.Laws.Quiet.{spans-nothing}
-use Rattle.planreader.specs.Laws.Records.{text_faulty, records-refused, records-added}
-use Rattle.planreader.specs.Records.{PlanIn, read_text, AddsBehind, AddsRecord, require_engine, read_behind, begun_by, IsBegun, RecordsBy}
+use Rattle.planreader.specs.Laws.Records.{records-refused, records-added}
+use Rattle.planreader.specs.Records.{PlanIn, read_text, AddsBehind, AddsRecord, AddsNext, require_engine, read_behind, begun_by, IsBegun, RecordsBy}
 
 -- a plan by value that holds a plan is that plan by value
 plan-value : {f : FilePlan} {p : ByValue} → PlanIn f p → p ≡ by_value f
@@ -43,9 +43,9 @@ begun-held mode minutes allowance =
       mode = refl;
       minutes = refl;
       allowance = refl;
-      engines = filled-nothing most_engines;
+      engines = rw (← columns-nothing most_engines) (filled-nothing most_engines);
       spans = spans-nothing;
-      deliveries = filled-nothing most_deliveries;
+      deliveries = rw (← columns-nothing most_deliveries) (filled-nothing most_deliveries);
     }
 
 pub pending_start : (file : List ℕ) (start : ℕ) (p : ByValue) → IsBegun p → Pending file start (begun_by p) p start 2
@@ -85,25 +85,25 @@ module _ {file : List ℕ} {start : ℕ} {b : FilePlan} {p : ByValue} {from plac
   pending-refused after what h =
       rw (s.left ∙ ap (read_records s.so_far place) next.first ∙ records-refused s.so_far place text _ what (h place))
 
-  -- it breaks the grammar or has not four fields
-  pub pending_broken : (after : ByValue) (what : Fault) → ((r : ℕ) → fields_of r text ≡ fault what r)
-      → RecordsBy (read_behind file start b) after (Err (record { fault = what; place = place }))
-  pending_broken after what broken = pending-refused after what (text_faulty text what broken s.so_far)
-
-  -- as the function that adds a record says it, of a text that is this one: over variables, so that a caller rewrites no large goal
-  told : (after : ByValue) (own : List ℕ) (how : Result (Unit {0}) Fault) → own ≡ text → AddsRecord own p after how → AddsBehind text s.so_far after how
+  -- as the function that adds it says it: over variables, so that a caller rewrites no large goal
+  told : (after : ByValue) (how : Result (Unit {0}) Fault) → AddsRecord text p after how → AddsBehind text s.so_far after how
   unfolding AddsRecord
-  told after own how same adds = rw same at (adds s.so_far s.held)
+  told after how adds = adds s.so_far s.held
 
-  module _ (after : ByValue) {own : List ℕ} {how : Result (Unit {0}) Fault} (same : own ≡ text) (adds : AddsRecord own p after how) where
+  module _ (after : ByValue) {how : Result ℕ Fault} (adds : AddsNext file from p after how) where
     pub pending_fault : {what : Fault} → how ≡ Err what → RecordsBy (read_behind file start b) after (Err (record { fault = what; place = place }))
-    unfolding AddsBehind
-    pending_fault {what} is = pending-refused after what (rw is at (told after own how same adds))
+    unfolding AddsNext AddsBehind
+    pending_fault {what} is = pending-refused after what (told after (Err what) (rw is at adds)).0
 
-    pub pending_added : {done : Unit {0}} {to : ℕ} → how ≡ Ok done → to ≡ (record_span file from).next → Pending file start b after to (place + 1)
-    unfolding AddsBehind
-    pending_added is behind =
-        let (g, reads, held) = rw is at (told after own how same adds) in
+    pub pending_next : {to : ℕ} → how ≡ Ok to → to ≡ (record_span file from).next
+    unfolding AddsNext
+    pending_next is = (rw is at adds).1
+
+    pub pending_added : {to : ℕ} → how ≡ Ok to → Pending file start b after to (place + 1)
+    unfolding AddsNext AddsBehind
+    pending_added {to} is =
+        let (adds, behind) = rw is at adds in
+        let (g, reads, held) = told after (Ok tt) adds in
         record {
           so_far = g;
           held = held;

@@ -8,7 +8,8 @@ use Rattle.std.proofs.Math.Option.{some}
 use Rattle.std.proofs.Math.Dec.{eqb}
 use Rattle.std.proofs.lemmas.Bool.{eqb-false}
 use Rattle.rfc4180.specs.Bytes.{quote, comma, carriage_return, line_feed}
-use Rattle.rfc4180.specs.Grammar.{Escaped, escaped-end, escaped-text, escaped-comma, escaped_cr, escaped_lf, escaped-quote, Field, field-escaped, field_non_escaped}
+use Rattle.rfc4180.specs.Grammar.{Escaped, escaped-end, escaped-text, escaped-comma, escaped_cr, escaped_lf, escaped-quote, Field, field-escaped}
+use Rattle.rfc4180.specs.Grammar.{field_non_escaped}
 use Rattle.rfc4180.specs.Fields.{field_value}
 use Rattle.csv_fields.specs.Spans.{inside_of, holds_quote}
 use Rattle.rfc4180.proofs.Laws.Fields.{field-sound}
