@@ -6,9 +6,11 @@
 // between numbers, and the last one ends its line.
 #![tactic(auto)]
 
-use planning::{Answer, Mode, PlanLists, Refusal};
+ghost use Rattle.std.specs.Prelude.{◌≤◌, length, OnOk};
+
+use planning::{Mode, PlanLists};
 use report::{
-    Scanner, answer_page, list_page, mode_name, others, print, read_full, refusal_page, words_page,
+    Scanner, answer_page, list_page, mode_name, others, plan_page, print, read_full, words_page,
 };
 use std::io::{self, Write};
 
@@ -16,6 +18,13 @@ use std::io::{self, Write};
 const TABLE_PATTERN: u64 = 7;
 
 const SPARE_PATTERN: u64 = 8;
+
+// Room for a plan's numbers of its engines, of its deliveries and of its quiet spans, past what a plan may have.
+const ENGINE_ROOM: usize = 16;
+
+const DELIVERY_ROOM: usize = 80;
+
+const QUIET_ROOM: usize = 320;
 
 // Room for a list that is lent, and for numbers behind it.
 const ROOM: usize = 1024;
@@ -67,21 +76,25 @@ struct Lengths {
     spare: usize,
 }
 
-fn read_lengths(numbers: &mut Scanner) -> Lengths {
+fn read_lengths(numbers: &mut Scanner) -> Lengths
+    ensures { length numbers.new.rest.now ≤ length numbers.old.rest.now }
+{
     Lengths {
-        watts: numbers.number(16) as usize,
-        fuels: numbers.number(16) as usize,
-        energies: numbers.number(80) as usize,
-        limits: numbers.number(80) as usize,
-        quiet: numbers.number(320) as usize,
+        watts: numbers.number(ENGINE_ROOM as u64) as usize,
+        fuels: numbers.number(ENGINE_ROOM as u64) as usize,
+        energies: numbers.number(DELIVERY_ROOM as u64) as usize,
+        limits: numbers.number(DELIVERY_ROOM as u64) as usize,
+        quiet: numbers.number(QUIET_ROOM as u64) as usize,
         table: numbers.number(1000) as usize,
         spare: numbers.number(20) as usize,
     }
 }
 
 // The front of a list, filled with the next numbers.
-fn read_list<'a>(numbers: &mut Scanner, length: usize, list: &'a mut [u64]) -> &'a [u64] {
-    let end = length.min(list.len());
+fn read_list<'a>(numbers: &mut Scanner, count: usize, list: &'a mut [u64]) -> &'a [u64]
+    ensures { length numbers.new.rest.now ≤ length numbers.old.rest.now }
+{
+    let end = count.min(list.len());
     let front = &mut list[..end];
     for number in front.iter_mut() {
         *number = numbers.number(u64::MAX);
@@ -93,12 +106,8 @@ fn read_list<'a>(numbers: &mut Scanner, length: usize, list: &'a mut [u64]) -> &
 fn print_call<W: Write>(to: &mut W, plan: PlanLists, lengths: Lengths) -> io::Result<()> {
     to.write_all(b": ")?;
     to.write_all(mode_name(plan.mode))?;
-    print(to, words_page(b" # #", &[plan.minutes, plan.allowance]))?;
-    print(to, list_page(b", watts", plan.watts))?;
-    print(to, list_page(b", fuels", plan.fuels))?;
-    print(to, list_page(b", energies", plan.energies))?;
-    print(to, list_page(b", limits", plan.limits))?;
-    print(to, list_page(b", quiet", plan.quiet))?;
+    print(to, words_page(b" # #, ", &[plan.minutes, plan.allowance]))?;
+    print(to, plan_page(plan, b", "))?;
     print(
         to,
         words_page(
@@ -108,42 +117,36 @@ fn print_call<W: Write>(to: &mut W, plan: PlanLists, lengths: Lengths) -> io::Re
     )
 }
 
-// Prints what the allocation returned.
-fn print_answer<W: Write>(to: &mut W, answer: Result<Answer, Refusal>) -> io::Result<()> {
-    to.write_all(b"  ")?;
-    match answer {
-        Ok(answer) => print(to, answer_page(answer)),
-        Err(refusal) => print(to, refusal_page(refusal)),
-    }
-}
-
 // Runs a plan with the front of a table and of a spare list lent, and prints the call, the answer and what is left in them.
 fn run<W: Write>(to: &mut W, plan: PlanLists, lengths: Lengths) -> io::Result<()> {
     print_call(to, plan, lengths)?;
     let mut table = Lent::new(lengths.table, TABLE_PATTERN);
     let mut spare = Lent::new(lengths.spare, SPARE_PATTERN);
     let answer = allocation::allocate(plan, table.front(), spare.front());
-    print_answer(to, answer)?;
+    to.write_all(b"  ")?;
+    print(to, answer_page(answer))?;
     table.print(to, b", table", b", behind it changed #")?;
     spare.print(to, b", spare", b", behind it changed #\n")
 }
 
-// The mode that a number stands for.
+// The mode that a number of the input stands for. `export` has the same for the number that a C program gives: each form has its own numbers.
 fn mode_of(n: u64) -> Mode {
     if n == 0 { Mode::Fixed } else { Mode::Shortest }
 }
 
 // Reads the plan whose numbers come next, and runs it.
-fn run_plan<W: Write>(to: &mut W, numbers: &mut Scanner) -> io::Result<()> {
+fn run_plan<W: Write>(to: &mut W, numbers: &mut Scanner) -> io::Result<()>
+    ensures { OnOk result (length numbers.new.rest.now ≤ length numbers.old.rest.now) }
+{
     let mode = mode_of(numbers.number(1));
     let minutes = numbers.number(u64::MAX);
     let allowance = numbers.number(u64::MAX);
     let lengths = read_lengths(numbers);
-    let mut watts = [0; 16];
-    let mut fuels = [0; 16];
-    let mut energies = [0; 80];
-    let mut limits = [0; 80];
-    let mut quiet = [0; 320];
+    let mut watts = [0; ENGINE_ROOM];
+    let mut fuels = [0; ENGINE_ROOM];
+    let mut energies = [0; DELIVERY_ROOM];
+    let mut limits = [0; DELIVERY_ROOM];
+    let mut quiet = [0; QUIET_ROOM];
     let plan = PlanLists {
         mode,
         minutes,
@@ -157,19 +160,27 @@ fn run_plan<W: Write>(to: &mut W, numbers: &mut Scanner) -> io::Result<()> {
     run(to, plan, lengths)
 }
 
+// The title that stands next: all up to the end of its line.
+fn title<'a>(input: &mut Scanner<'a>) -> &'a [u8]
+    ensures { length input.new.rest.now ≤ length input.old.rest.now }
+{
+    let end = input
+        .rest
+        .iter()
+        .position(|b| *b == b'\n')
+        .unwrap_or(input.rest.len());
+    let (title, behind) = input.rest.split_at(end);
+    input.rest = behind;
+    title
+}
+
 // Runs the plans of the input, each behind its title; what ends a plan's last number ends its line.
 fn run_all<W: Write>(to: &mut W, input: &[u8]) -> io::Result<()> {
-    let mut rest = input;
-    while !rest.is_empty() {
-        let end = rest.iter().position(|b| *b == b'\n').unwrap_or(rest.len());
-        let (title, behind) = rest.split_at(end);
-        to.write_all(title)?;
-        let mut numbers = Scanner {
-            input: behind,
-            at: 0,
-        };
-        run_plan(to, &mut numbers)?;
-        rest = behind.get(numbers.at.saturating_add(1)..).unwrap_or(&[]);
+    let mut input = Scanner { rest: input };
+    while !input.rest.is_empty() {
+        to.write_all(title(&mut input))?;
+        run_plan(to, &mut input)?;
+        input.rest.split_off_first();
     }
     Ok(())
 }

@@ -5,8 +5,8 @@
 
 ghost use Rattle.std.specs.Prelude.{◌<◌, length, IfSome};
 
-use csv_fields::{FieldForm, FieldRead, UndoError};
-use lines::WriteError;
+use csv_fields::{FieldEnd, FieldForm, FieldRead, UndoError};
+use lines::{Output, WriteError};
 use report::{Scanner, print, read_full, shown_page};
 use std::io::{self, Write};
 
@@ -58,16 +58,14 @@ fn show_records<W: Write>(to: &mut W, file: &[u8]) -> io::Result<()> {
 
 // What ends a field that was read in place.
 fn what_ends(field: FieldRead) -> &'static [u8] {
-    if field.more {
-        b" comma"
-    } else if field.end < field.next {
-        b" record end"
-    } else {
-        b" end of file"
+    match field.ended_by {
+        FieldEnd::Comma => b" comma",
+        FieldEnd::RecordEnd => b" record end",
+        FieldEnd::FileEnd => b" end of file",
     }
 }
 
-// The raw fields of a file, read in place one after the other up to the first that is broken.
+// The raw fields of a file, read in place one after the other up to the first that is broken. A CR LF at the very end has no record behind it.
 fn show_fields<W: Write>(to: &mut W, file: &[u8]) -> io::Result<()> {
     let mut from = 0;
     loop {
@@ -78,9 +76,10 @@ fn show_fields<W: Write>(to: &mut W, file: &[u8]) -> io::Result<()> {
             to,
             shown_page(b" ", &file[from..field.end], what_ends(field)),
         )?;
-        from = field.next;
-        if !field.more && file.len() <= from {
-            return Ok(());
+        match field.ended_by {
+            FieldEnd::Comma => from = field.next,
+            FieldEnd::RecordEnd if field.next < file.len() => from = field.next,
+            FieldEnd::RecordEnd | FieldEnd::FileEnd => return Ok(()),
         }
     }
 }
@@ -106,11 +105,13 @@ fn show_back<W: Write>(to: &mut W, raw: &[u8], n: usize) -> io::Result<()> {
 // What a value is written as between dots, and the value read back from there.
 fn show_written<W: Write>(to: &mut W, value: &[u8]) -> io::Result<()> {
     let mut output = [b'.'; 24];
-    let wrote = lines::write_field(value, b"", &mut output, 2);
+    let mut out = Output::new(&mut output[2..]);
+    let wrote = out.write_field(value, b"");
+    let n = out.len();
     print(to, shown_page(b"\nvalue ", value, b""))?;
     print(to, shown_page(b"\noutput ", &output, b"\nread back"))?;
     match wrote {
-        Ok(end) => show_back(to, output.get(2..end).unwrap_or(&[]), value.len()),
+        Ok(()) => show_back(to, output[2..].get(..n).unwrap_or(&[]), value.len()),
         Err(WriteError::Refused) => to.write_all(b" nothing: refused"),
         Err(WriteError::TooLong) => to.write_all(b" nothing: too long"),
     }
@@ -140,33 +141,32 @@ fn show_example<W: Write>(to: &mut W, titled: Titled<'_>) -> io::Result<()> {
     to.write_all(b"\n")
 }
 
-// The example that an input begins with, and what stands behind it; `None` where it is cut off.
-fn first_example(input: &[u8]) -> Option<(Titled<'_>, &[u8])>
-    ensures { IfSome result (λ found. length found.1.now < length input.now) }
+// The next example of an input; `None` where it is cut off.
+fn next_example<'a>(input: &mut Scanner<'a>) -> Option<Titled<'a>>
+    ensures { IfSome result (λ titled. length input.new.rest.now < length input.old.rest.now) }
 {
-    let (letter, rest) = input.split_first()?;
-    let mut lengths = Scanner { input: rest, at: 0 };
-    let titled = lengths.number(4096) as usize;
-    let sized = lengths.number(4096) as usize;
-    let rest = rest.get(lengths.at.saturating_add(1)..)?;
-    let (title, rest) = rest.split_at_checked(titled)?;
-    let (bytes, rest) = rest.split_at_checked(sized)?;
+    let letter = input.rest.split_off_first()?;
+    let titled = input.number(4096) as usize;
+    let sized = input.number(4096) as usize;
+    input.rest.split_off_first()?;
+    let title = input.rest.split_off(..titled)?;
+    let bytes = input.rest.split_off(..sized)?;
     let example = match letter {
         b'R' => Example::File(bytes),
         _ => Example::Value(bytes),
     };
-    Some((Titled { title, example }, rest))
+    Some(Titled { title, example })
 }
 
-// The examples of an input, one after the other.
+// The examples of an input, one after the other. filecall_test has this loop too: one in `report` would take two closures and could say
+// nothing of what they print.
 fn show_examples<W: Write>(to: &mut W, input: &[u8]) -> io::Result<()> {
-    let mut rest = input;
-    while !rest.is_empty() {
-        let Some((titled, behind)) = first_example(rest) else {
+    let mut input = Scanner { rest: input };
+    while !input.rest.is_empty() {
+        let Some(titled) = next_example(&mut input) else {
             return to.write_all(b"cut off\n");
         };
         show_example(to, titled)?;
-        rest = behind;
     }
     Ok(())
 }

@@ -1,8 +1,8 @@
 // One plan, answered by the allocation and by the exhaustive planner.
-use crate::cutting::{given, serves};
+use crate::cutting::Cutting;
 use crate::exhaustive::first_served;
 use crate::lists::List;
-use crate::tasks::{Task, capacities_of, task_of};
+use crate::tasks::{Task, capacities_of};
 use planning::{Answer, Mode, Outcome, PlanLists, Refusal};
 use report::others;
 
@@ -64,10 +64,14 @@ impl Answered {
     }
 
     // Whether each engine's spare is its capacity less its pieces.
-    fn spares_right(&self, task: Task) -> bool {
-        let table = self.table.items();
-        let mut spares = task.capacities.iter().zip(self.spare.items()).enumerate();
-        spares.all(|(engine, (capacity, spare))| spare.saturating_add(given(task, table, engine))
+    fn spares_right(&self, cutting: Cutting) -> bool {
+        let mut spares = cutting
+            .task
+            .capacities
+            .iter()
+            .zip(self.spare.items())
+            .enumerate();
+        spares.all(|(engine, (capacity, spare))| spare.saturating_add(cutting.given(engine))
             == *capacity)
     }
 
@@ -78,8 +82,11 @@ impl Answered {
             Ok(None) => self.is_untouched(),
             Ok(Some(minutes)) => {
                 let capacities = capacities_of(plan, minutes);
-                let task = task_of(plan, capacities.items());
-                serves(task, 1, self.table.items()) && self.spares_right(task)
+                let cutting = Cutting {
+                    task: Task::of(plan, capacities.items(), 1),
+                    table: self.table.items(),
+                };
+                cutting.serves() && self.spares_right(cutting)
             }
         }
     }

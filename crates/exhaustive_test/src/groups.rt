@@ -1,39 +1,44 @@
 // Groups of plans: every plan of a shape, or every so many-th of them, is checked and counted.
-use crate::comparison::Answered;
+use crate::comparison::{Answered, Wrong};
 use crate::plans::Shape;
 use crate::tally::Tally;
 use planning::{Mode, PlanLists};
-use report::{list_page, mode_name, print, words_page};
+use report::{Page, mode_name, plan_page, print, words_page};
 use std::io::{self, Write};
 
 // One plan in `step` of a shape, in a mode with its MINUTES.
 #[derive(Clone, Copy)]
 pub(crate) struct Group {
-    pub mode: Mode,
-    pub minutes: u64,
-    pub shape: Shape,
-    pub step: u64,
+    mode: Mode,
+    minutes: u64,
+    shape: Shape,
+    step: u64,
 }
 
 // The most differences of a group that are printed.
 const MOST_SHOWN: u64 = 10;
 
-// Prints a plan on which the planners differ, with the allocation's answer: 0 for none, the largest number for one that is wrong by itself.
-fn print_difference<W: Write>(to: &mut W, plan: PlanLists, answer: &Answered) -> io::Result<()> {
-    let minutes = answer.minutes.map_or(u64::MAX, |found| found.unwrap_or(0));
-    to.write_all(mode_name(plan.mode))?;
-    print(to, list_page(b": watts", plan.watts))?;
-    print(to, list_page(b"; fuels", plan.fuels))?;
-    print(to, list_page(b"; energies", plan.energies))?;
-    print(to, list_page(b"; limits", plan.limits))?;
-    print(to, list_page(b"; quiet", plan.quiet))?;
-    print(
-        to,
-        words_page(
+// What is printed of an allocation's answer on which the planners differ.
+fn difference_page(plan: PlanLists, answer: &Answered) -> Page {
+    match answer.minutes {
+        Ok(Some(minutes)) => words_page(
             b"; in # min answered #: a difference\n",
             &[plan.minutes, minutes],
         ),
-    )
+        Ok(None) => words_page(b"; in # min answered none: a difference\n", &[plan.minutes]),
+        Err(Wrong) => words_page(
+            b"; in # min answered wrongly: a difference\n",
+            &[plan.minutes],
+        ),
+    }
+}
+
+// Prints a plan on which the planners differ, with the allocation's answer.
+fn print_difference<W: Write>(to: &mut W, plan: PlanLists, answer: &Answered) -> io::Result<()> {
+    to.write_all(mode_name(plan.mode))?;
+    to.write_all(b": ")?;
+    print(to, plan_page(plan, b"; "))?;
+    print(to, difference_page(plan, answer))
 }
 
 // Answers a plan both ways, compares, and counts it.
@@ -58,6 +63,7 @@ impl Group {
         }
     }
 
+    // Plans under `shortest`, of at most so many MINUTES.
     pub(crate) fn shortest(minutes: u64, shape: Shape, step: u64) -> Group {
         Group {
             mode: Mode::Shortest,
@@ -99,8 +105,8 @@ impl Group {
         )
     }
 
-    // Checks the plans of the group, prints what was counted, and adds it to a total.
-    pub(crate) fn check<W: Write>(&self, to: &mut W, total: &mut Tally) -> io::Result<()> {
+    // Checks the plans of the group, prints what was counted, and answers it.
+    pub(crate) fn check<W: Write>(&self, to: &mut W) -> io::Result<Tally> {
         let tally = self.check_plans(to)?;
         self.print(to)?;
         tally.print(
@@ -110,7 +116,6 @@ impl Group {
         if 1 < self.shape.ways {
             tally.print_quiet(to)?;
         }
-        total.add(&tally);
-        Ok(())
+        Ok(tally)
     }
 }

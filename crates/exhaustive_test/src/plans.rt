@@ -78,10 +78,8 @@ fn take_digits(number: &mut u64, radix: u64, count: u8) -> List {
 // The fuels of engines of some sizes: the first, the third and the fifth have unlimited fuel, the others as many Wh as their size.
 fn fuels_of(sizes: List) -> List {
     let mut fuels = sizes;
-    for (engine, fuel) in fuels.items_mut().iter_mut().enumerate() {
-        if engine % 2 == 0 {
-            *fuel = UNLIMITED;
-        }
+    for fuel in fuels.items_mut().iter_mut().step_by(2) {
+        *fuel = UNLIMITED;
     }
     fuels
 }

@@ -53,21 +53,18 @@ impl Tally {
         }
         let capacities = capacities_of(plan, plan.minutes);
         let running = running_each(plan, plan.minutes);
-        add(&mut self.plans, 1);
-        add(&mut self.none, u64::from(answer.minutes == Ok(None)));
-        add(&mut self.limit_one, u64::from(plan.limits.contains(&1)));
-        add(&mut self.tied, u64::from(has_tie(plan)));
-        add(&mut self.idle, u64::from(capacities.items().contains(&0)));
-        add(&mut self.differences, u64::from(!agreed));
-        add(&mut self.changed, answer.changed());
-        add(
-            &mut self.wholly_quiet,
-            u64::from(running.items().contains(&0)),
-        );
-        add(
-            &mut self.behind_span,
-            u64::from(is_behind_span(plan, found)),
-        );
+        self.add(&Tally {
+            plans: 1,
+            none: u64::from(answer.minutes == Ok(None)),
+            limit_one: u64::from(plan.limits.contains(&1)),
+            tied: u64::from(has_tie(plan)),
+            idle: u64::from(capacities.items().contains(&0)),
+            differences: u64::from(!agreed),
+            changed: answer.changed(),
+            wholly_quiet: u64::from(running.items().contains(&0)),
+            behind_span: u64::from(is_behind_span(plan, found)),
+            found: [0; 9],
+        });
     }
 
     // Adds the counts of another tally, without those by minutes.

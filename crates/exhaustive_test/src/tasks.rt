@@ -2,12 +2,53 @@
 use crate::lists::List;
 use planning::PlanLists;
 
-// The capacities of engines, and deliveries to be served from them.
+// The capacities of engines, and deliveries to be served from them by pieces of n parts of a watt-hour.
 #[derive(Clone, Copy)]
 pub(crate) struct Task<'a> {
     pub capacities: &'a [u64],
-    pub energies: &'a [u64],
-    pub limits: &'a [u64],
+    energies: &'a [u64],
+    limits: &'a [u64],
+    parts: u64,
+}
+
+// A number of a list, or 0 behind its end.
+pub(crate) fn entry(list: &[u64], at: usize) -> u64 {
+    list.get(at).copied().unwrap_or(0)
+}
+
+impl<'a> Task<'a> {
+    // A plan's deliveries, with these capacities of its engines.
+    pub(crate) fn of(plan: PlanLists<'a>, capacities: &'a [u64], parts: u64) -> Task<'a> {
+        Task {
+            capacities,
+            energies: plan.energies,
+            limits: plan.limits,
+            parts,
+        }
+    }
+
+    pub(crate) fn engines(&self) -> usize {
+        self.capacities.len()
+    }
+
+    pub(crate) fn deliveries(&self) -> usize {
+        self.energies.len()
+    }
+
+    // How many engines may serve a delivery.
+    pub(crate) fn limit(&self, delivery: usize) -> u64 {
+        entry(self.limits, delivery)
+    }
+
+    // What a delivery asks for: n × ENERGY.
+    pub(crate) fn wanted(&self, delivery: usize) -> u64 {
+        self.parts.saturating_mul(entry(self.energies, delivery))
+    }
+
+    // What an engine can give: n × its capacity.
+    pub(crate) fn offered(&self, engine: usize) -> u64 {
+        self.parts.saturating_mul(entry(self.capacities, engine))
+    }
 }
 
 // Whether an engine, counted from 1, runs in a minute: no span of the list is the engine's and has the minute.
@@ -43,13 +84,4 @@ pub(crate) fn capacities_of(plan: PlanLists, minutes: u64) -> List {
         *capacity = (watts.saturating_mul(*capacity) / 60).min(*fuel);
     }
     each
-}
-
-// A plan's task with these capacities of its engines.
-pub(crate) fn task_of<'a>(plan: PlanLists<'a>, capacities: &'a [u64]) -> Task<'a> {
-    Task {
-        capacities,
-        energies: plan.energies,
-        limits: plan.limits,
-    }
 }

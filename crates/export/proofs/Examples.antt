@@ -3,8 +3,8 @@
 use Rattle.std.specs.Prelude.{◌≡◌, refl, ℕ, replicate}
 use mathlib.Core.List.{List, [], ◌∷◌, map, zip_with}
 use Rattle.planning.proofs.Examples.Evaluation.{evaluated}
-use Rattle.planning.specs.Numbers.{Call, quiet_of, engines_of, deliveries_of, plan_of, within, engine_fault, delivery_fault, quiet_fault, check_quiet, refusal_of}
-use Rattle.planning.specs.Numbers.{answered_by as answer_by, allocation, unless_refused, table_on_exit, spare_on_exit, call_on}
+use Rattle.planning.specs.Numbers.{Call, quiet_of, engines_of, deliveries_of, plan_of, within, engine_fault, delivery_fault, quiet_fault}
+use Rattle.planning.specs.Numbers.{check_quiet, refusal_of, answered_by as answer_by, allocation, unless_refused, table_on_exit, spare_on_exit, call_on}
 use Rattle.planning.specs.Quiet.{spans_of, clear, clear_of, fits}
 use Rattle.planning.specs.Refusals.{fault_number, check, ◌then◌, check_each}
 use Rattle.export.specs.declared.PlanReply.{PlanReply}
@@ -21,7 +21,9 @@ pub record Example : Type 0 where
 
 -- what the definitions make of a mode and a call
 pub called : Example → Example
-unfolding evaluated quiet_of engines_of deliveries_of plan_of within engine_fault delivery_fault spans_of clear clear_of fits quiet_fault check_quiet refusal_of answer_by allocation unless_refused table_on_exit spare_on_exit fault_number check ◌then◌ check_each zip_with is_mode no_mode before_mode without_mode allocation_by table_by spare_by word_of answered_by refused_by reply_of
+unfolding evaluated quiet_of engines_of deliveries_of plan_of within engine_fault delivery_fault spans_of clear clear_of fits quiet_fault
+    check_quiet refusal_of answer_by allocation unless_refused table_on_exit spare_on_exit fault_number check ◌then◌ check_each zip_with
+    is_mode no_mode before_mode without_mode allocation_by table_by spare_by word_of answered_by refused_by reply_of
 called e =
     record {
       mode = e.mode;

@@ -12,7 +12,8 @@ use Rattle.planning.specs.declared.Refusal.{Refusal}
 use Rattle.planning.specs.Bounds.{most_minutes, most_tries}
 use Rattle.planning.proofs.Laws.Finite.Decisions.{le-or-lt}
 use Rattle.planning.proofs.Laws.Refusals.{Only, only-check, only_then, only-each}
-use Rattle.planning.specs.Numbers.{Call, quiet_of, plan_of, within, engine_fault, delivery_fault, quiet_fault, check_quiet, refusal_of, answered_by, allocation, call_on}
+use Rattle.planning.specs.Numbers.{Call, quiet_of, plan_of, within, engine_fault, delivery_fault, quiet_fault, check_quiet, refusal_of}
+use Rattle.planning.specs.Numbers.{answered_by, allocation, call_on}
 use Rattle.planning.specs.Plan.{Engine, Delivery}
 use Rattle.planning.specs.Promises.{Promised}
 use Rattle.planning.specs.Quiet.{Quiet}

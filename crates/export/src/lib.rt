@@ -13,7 +13,7 @@ use planning::{Answer, Mode, Outcome, PlanLists, Refusal};
 // What planning comes to: the word is 0 found, 1 none, 2 stopped, 3 refused. An answer has its minutes and tries, and with a file the
 // length of its print; a refusal has its number and place. The other numbers are 0.
 #[repr(C)]
-#[derive(Clone, Copy)]
+#[derive(Clone, Copy, Default)]
 pub struct PlanReply {
     pub word: u64,
     pub minutes: u64,
@@ -26,7 +26,7 @@ pub struct PlanReply {
 // What a spare lookup comes to: the word is 0 where an engine is named, 1 none, 3 refused. The engine is counted from 0. The C interface has a
 // struct of its own for it.
 #[repr(C)]
-#[derive(Clone, Copy)]
+#[derive(Clone, Copy, Default)]
 pub struct LookupReply {
     pub word: u64,
     pub engine: u64,
@@ -78,13 +78,12 @@ impl From<(Answer, usize)> for PlanReply {
             minutes: answer.minutes,
             tries: answer.tries,
             length: length as u64,
-            number: 0,
-            place: 0,
+            ..PlanReply::default()
         }
     }
 }
 
-// A refusal, of a plan and of a lookup.
+// A plan's refusal.
 impl From<Refusal> for PlanReply {
     ghost from_gives = { λ refusal reply. reply ≡ refused_by refusal };
 
@@ -92,11 +91,9 @@ impl From<Refusal> for PlanReply {
     fn from(refusal: Refusal) -> PlanReply {
         PlanReply {
             word: 3,
-            minutes: 0,
-            tries: 0,
-            length: 0,
             number: refusal.fault.into(),
             place: refusal.place,
+            ..PlanReply::default()
         }
     }
 }
@@ -111,19 +108,17 @@ impl From<Option<usize>> for LookupReply {
             Some(i) => LookupReply {
                 word: 0,
                 engine: i as u64,
-                number: 0,
-                place: 0,
+                ..LookupReply::default()
             },
             None => LookupReply {
                 word: 1,
-                engine: 0,
-                number: 0,
-                place: 0,
+                ..LookupReply::default()
             },
         }
     }
 }
 
+// A lookup's refusal.
 impl From<Refusal> for LookupReply {
     ghost from_gives = { λ refusal reply. reply ≡ lookup_reply_of (Err refusal) };
 
@@ -131,24 +126,24 @@ impl From<Refusal> for LookupReply {
     fn from(refusal: Refusal) -> LookupReply {
         LookupReply {
             word: 3,
-            engine: 0,
             number: refusal.fault.into(),
             place: refusal.place,
+            ..LookupReply::default()
         }
     }
 }
 
 // `allocation::allocate`, with the mode as a number and each list by itself, as the C interface has them.
 #[unsafe(no_mangle)]
-pub extern "C" fn fothwen_allocate<'a>(
+pub extern "C" fn fothwen_allocate(
     mode: u64,
     minutes: u64,
     allowance: u64,
-    watts: &'a [u64],
-    fuels: &'a [u64],
-    energies: &'a [u64],
-    limits: &'a [u64],
-    quiet: &'a [u64],
+    watts: &[u64],
+    fuels: &[u64],
+    energies: &[u64],
+    limits: &[u64],
+    quiet: &[u64],
     table: &mut [u64],
     spare: &mut [u64],
 ) -> PlanReply

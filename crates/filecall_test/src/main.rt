@@ -9,7 +9,7 @@
 ghost use Rattle.std.specs.Prelude.{◌≤◌, ◌<◌, length, IfSome};
 
 use planning::{Answer, Refusal};
-use report::{Scanner, answer_page, print, read_full, refusal_page, shown_page, words_page};
+use report::{Scanner, answer_page, print, read_full, shown_page, words_page};
 use std::array;
 use std::io::{self, Write};
 
@@ -41,9 +41,9 @@ where
     requires { P.IsAlwaysCallable pattern }
 {
     let mut kept: &[u8] = b" kept";
-    for (i, item) in list.iter().enumerate() {
+    for (i, item) in list.iter().enumerate().skip(from) {
         let item = u64::from(*item);
-        if from <= i && item != pattern(i) {
+        if item != pattern(i) {
             print(to, words_page(b" #:#", &[i as u64, item]))?;
             kept = b" others kept";
         }
@@ -58,9 +58,8 @@ fn write_line(refusal: Refusal, space: &mut [u8], room: usize) -> usize {
         .map_or(0, |lent| filecall::write_refusal(refusal, lent))
 }
 
-// Prints a refusal, and what the program `planner` prints of it, with just enough space and with a byte less.
-fn show_refusal<W: Write>(to: &mut W, refusal: Refusal) -> io::Result<()> {
-    print(to, refusal_page(refusal))?;
+// Prints what the program `planner` prints of a refusal, with just enough space and with a byte less.
+fn show_line<W: Write>(to: &mut W, refusal: Refusal) -> io::Result<()> {
     let mut space = [b'.'; 20];
     let n = filecall::write_refusal(refusal, &mut space);
     let mut line = [b'.'; 20];
@@ -79,13 +78,11 @@ fn show_answer<W: Write>(
     to: &mut W,
     answer: Result<(Answer, usize), Refusal>,
 ) -> io::Result<usize> {
+    print(to, answer_page(answer.map(|(answer, _)| answer)))?;
     match answer {
-        Ok((answer, n)) => {
-            print(to, answer_page(answer))?;
-            Ok(n)
-        }
+        Ok((_, n)) => Ok(n),
         Err(refusal) => {
-            show_refusal(to, refusal)?;
+            show_line(to, refusal)?;
             Ok(0)
         }
     }
@@ -170,21 +167,21 @@ fn run_case<W: Write>(to: &mut W, case: &Case) -> io::Result<()> {
     lent.show(to, n)
 }
 
-// The case that an input begins with, and what stands behind it; `None` where it is cut off.
-fn first_case(input: &[u8]) -> Option<(Case<'_>, &[u8])>
-    ensures { IfSome result (λ found. length found.1.now < length input.now) }
+// The next case of an input; `None` where it is cut off.
+fn next_case<'a>(input: &mut Scanner<'a>) -> Option<Case<'a>>
+    ensures { IfSome result (λ case. length input.new.rest.now < length input.old.rest.now) }
 {
-    let mut numbers = Scanner { input, at: 0 };
-    let titled = numbers.number(4096) as usize;
-    let sized = numbers.number(32768) as usize;
-    let table = numbers.number(800) as usize;
-    let spare = numbers.number(20) as usize;
-    let output = numbers.number(6800) as usize;
-    let size = numbers.number(32769) as usize;
-    let (pad, rest) = input.get(numbers.at.saturating_add(1)..)?.split_first()?;
-    let (title, rest) = rest.split_at_checked(titled)?;
-    let (bytes, rest) = rest.split_at_checked(sized)?;
-    let case = Case {
+    let titled = input.number(4096) as usize;
+    let sized = input.number(32768) as usize;
+    let table = input.number(800) as usize;
+    let spare = input.number(20) as usize;
+    let output = input.number(6800) as usize;
+    let size = input.number(32769) as usize;
+    input.rest.split_off_first()?;
+    let pad = input.rest.split_off_first()?;
+    let title = input.rest.split_off(..titled)?;
+    let bytes = input.rest.split_off(..sized)?;
+    Some(Case {
         title,
         bytes,
         pad: *pad,
@@ -192,19 +189,18 @@ fn first_case(input: &[u8]) -> Option<(Case<'_>, &[u8])>
         spare,
         output,
         size,
-    };
-    Some((case, rest))
+    })
 }
 
-// Runs the cases of an input, one after the other.
+// Runs the cases of an input, one after the other. csv_test has this loop too: one in `report` would take two closures and could say
+// nothing of what they print.
 fn run_cases<W: Write>(to: &mut W, input: &[u8]) -> io::Result<()> {
-    let mut rest = input;
-    while !rest.is_empty() {
-        let Some((case, behind)) = first_case(rest) else {
+    let mut input = Scanner { rest: input };
+    while !input.rest.is_empty() {
+        let Some(case) = next_case(&mut input) else {
             return to.write_all(b"cut off\n");
         };
         run_case(to, &case)?;
-        rest = behind;
     }
     Ok(())
 }

@@ -2,5 +2,5 @@
 use Rattle.std.proofs.Common.{length}
 use Rattle.filecall_test.proofs.run_cases.Given as goal
 
-abbrev pub decreases-loop-rest : goal.decreases-loop-rest
-decreases-loop-rest g l = length l.rest
+abbrev pub decreases-loop-input : goal.decreases-loop-input
+decreases-loop-input g l = length l.input.rest.now
