@@ -73,7 +73,7 @@ impl Group {
         }
     }
 
-    // Checks the plans of the group.
+    // Checks the plans of the group. Not by `step_by`, which takes one plan more where the step does not divide their number.
     fn check_plans<W: Write>(&self, to: &mut W) -> io::Result<Tally> {
         let mut tally = Tally::default();
         for i in 0..self.shape.plans().checked_div(self.step).unwrap_or(0) {

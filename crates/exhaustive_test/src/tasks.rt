@@ -11,7 +11,7 @@ pub(crate) struct Task<'a> {
     parts: u64,
 }
 
-// A number of a list, or 0 behind its end.
+// A number of a list, or 0 behind its end: a piece that is not there is 0 Wh, so no Option.
 pub(crate) fn entry(list: &[u64], at: usize) -> u64 {
     list.get(at).copied().unwrap_or(0)
 }

@@ -52,7 +52,7 @@ fn plan<W: Write>(file: &[u8], to: &mut W) -> io::Result<()> {
 }
 
 fn main(rt: HostRuntime) -> io::Result<()> {
-    // one byte more than a file may have, which is enough to refuse it by 1
+    // one byte more than a file may have, which is enough to refuse it by 1; an array, so that a plan needs no memory that may be missing
     let mut file = [0u8; MOST_BYTES + 1];
     let n = read_input(&mut rt.stdin(), &mut file)?;
     plan(&file[..n], &mut rt.stdout())

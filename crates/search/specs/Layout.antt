@@ -4,7 +4,7 @@
 -- cut for it: a cut closes its engine, so that engine's amount holds the delivery's rest, and `served` the set of engines cut for it.
 -- There are as many slots as the arrays are long; only `Lengths` says how long that is.
 -- Assumes nothing.
-use Rattle.std.specs.Prelude.{◌≡◌, Bool, true, false, cond, ◌&&◌, List, ℕ, ◌-◌, ◌≤◌, ◌<◌, ltb, eqb, length, Option, Some, None}
+use Rattle.std.specs.Prelude.{◌≡◌, Bool, true, false, cond, ◌&&◌, List, ℕ, ◌*◌, ◌-◌, ◌≤◌, ◌<◌, ltb, eqb, length, Option, Some, None}
 use Rattle.std.specs.Int.Count.{ones}
 use Rattle.planning.specs.Bounds.{most_engines, most_deliveries, most_fuel, most_energy, most_limit}
 use Rattle.planning.specs.Tables.{listed, at}
@@ -15,7 +15,7 @@ use Rattle.search.specs.declared.cycle.Run.{Run}
 use Rattle.search.specs.declared.state.Pick.{Pick}
 use Rattle.search.specs.declared.state.State.{State}
 use Rattle.search.specs.declared.Task.{Task}
-use Rattle.search.specs.Promises.{engines_of, deliveries_of, CountsInRange}
+use Rattle.search.specs.Promises.{engines_of, deliveries_of}
 use Rattle.search.specs.Sets.{has}
 
 -- ---- what a state stands for
@@ -119,11 +119,17 @@ pub record Sized (engines deliveries left opened : ℕ) : Type 0 where
   pub engine_set : (i : ℕ) → has opened i ≡ true → i < engines
   pub delivery_set : (p : ℕ) → has left p ≡ true → p < deliveries
 
+-- a table for a task, and arrays that have room for it
+pub record Room (task : Task) (cells : ℕ) : Type 0 where
+  pub engine_count : engines_of task ≤ most_engines
+  pub delivery_count : deliveries_of task ≤ most_deliveries
+  pub table : cells ≡ deliveries_of task * engines_of task
+
 -- a run of the search can go on from a state
 pub record UnderWay (run : Run) (s : State) : Type 0 where
   pub kept : Kept run.task.now.energies.now run.task.now.limits.now s
   pub sized : Sized (engines_of run.task.now) (deliveries_of run.task.now) s.left s.«open»
-  pub counts : CountsInRange run.task.now (length run.table.now)
+  pub room : Room run.task.now (length run.table.now)
   pub allowed : run.tries ≤ run.task.now.allowance
 
 -- ---- laying and cutting

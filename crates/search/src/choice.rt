@@ -118,11 +118,10 @@ impl View<'_> {
     }
 
     // The bulkiest delivery, the earlier of two that are equal: one pass in file order, limit 1 and the others together.
-    // A loop: over `map` and `reduce`, tried, it was proved, and two plans took 6 and 8 % more time per try.
     fn bulkiest(&self) -> Option<Candidate>
         ensures { IsBulkiest self.now result }
     {
-        // Not by `map` and `reduce`: tried, and a try among 30 deliveries takes 18 % longer.
+        // Not by `map` and `reduce`: tried, it was proved, and a try among 30 deliveries takes 18 % longer.
         let mut best = None;
         for p in Members(self.state.left) {
             let next = self.candidate_at(p);
@@ -133,7 +132,7 @@ impl View<'_> {
         best
     }
 
-    // The smallest remaining of open engines, 0 where none is open.
+    // The smallest remaining of open engines; where none is open 0, as the definition has it, so no Option.
     fn smallest(&self) -> u32
         ensures { let s = self.now.state.now in (engines : ℕ) → ((i : ℕ) → has s.«open» i ≡ true → i < engines)
             → result ≡ smallest_of (listed engines (λ i. remaining_at s.«open» s.amount i)) engines }

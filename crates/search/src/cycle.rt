@@ -21,6 +21,7 @@ pub(crate) struct Run<'t, 'l> {
     pub tries: u32,
 }
 
+// What a run is under way in (`UnderWay`) is asked by each of the three: the state goes by value from try to try, and no field holds it.
 impl Run<'_, '_> {
     // Step B, C, E, or on to D or F.
     #[cycle(choose_cut_lay)]

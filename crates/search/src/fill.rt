@@ -3,8 +3,8 @@ ghost use Rattle.std.specs.Prelude.{◌≡◌, ℕ, ◌≤◌, ◌<◌, length};
 ghost use Rattle.planning.specs.Bounds.{most_engines, most_deliveries};
 ghost use Rattle.planning.specs.Tables.{listed};
 ghost use Rattle.planning.specs.Search.{drawn, undrawn, straight_fill};
-ghost use Rattle.search.specs.Layout.{remaining_at, rest_of as rest_left};
-ghost use Rattle.search.specs.Promises.{engines_of, deliveries_of, CountsInRange};
+ghost use Rattle.search.specs.Layout.{remaining_at, rest_of as rest_left, Room};
+ghost use Rattle.search.specs.Promises.{engines_of, deliveries_of};
 ghost use Rattle.search.specs.Steps.{energies};
 
 use crate::members::has;
@@ -63,7 +63,7 @@ impl View<'_> {
 
     // Every row, in file order.
     pub(crate) fn straight(&self, table: &mut [u64])
-        requires { CountsInRange self.now.task.now (length table.old) }
+        requires { Room self.now.task.now (length table.old) }
         ensures { let s = self.now.state.now in table.new
             ≡ straight_fill
             (listed (deliveries_of self.now.task.now) (λ p. rest_left (energies self.now) s p))

@@ -6,6 +6,7 @@ use Rattle.std.proofs.Common.{◌∙◌, arith}
 use Rattle.std.proofs.Math.Path.{ap}
 use Rattle.std.proofs.Math.Option.{Option, none, some}
 use Rattle.std.proofs.lemmas.List.{length-replicate}
+use Rattle.planning.specs.declared.Mode.TheVariants.{Fixed}
 use Rattle.planning.specs.declared.Plan.{Plan as ByValue}
 use Rattle.planning.specs.declared.PlanLists.{PlanLists}
 use Rattle.planning.specs.declared.Refusal.{Refusal}
@@ -33,6 +34,11 @@ module _ (call : Call) where
     by_acceptance made = rw (accepted-by (refusal_of call) verdict, made)
 
 -- ---- for a caller
+
+-- the refusal does not depend on the mode
+pub fixed-refusal : (call : Call) → refusal_of (record call { mode = Fixed }) ≡ refusal_of call
+unfolding refusal_of plan_of
+fixed-refusal call = refl
 
 -- of the lent lists the refusal depends on the lengths alone
 refusal-lent : (lists : PlanLists) (table spare : List ℕ)

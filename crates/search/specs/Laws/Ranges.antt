@@ -3,7 +3,7 @@
 use Rattle.std.specs.Prelude.{◌≡◌, refl, ◌⊎◌, List, ℕ, ◌≤◌, ◌<◌, ltb, length, take, sum, zero, suc}
 use Rattle.std.proofs.Common.{ap, ◌∙◌, add-one, take_all, inl, inr, lt-ltb, le-ltb, arith}
 use Rattle.std.proofs.Math.ListN.{get_or-eq_default}
-use Rattle.planning.specs.Bounds.{most_engines, most_tries, most_fuel}
+use Rattle.planning.specs.Bounds.{most_engines, most_fuel}
 use Rattle.planning.proofs.Laws.Finite.Decisions.{le-or-lt}
 use Rattle.planning.specs.Search.{none, total, up_to, searched, unless_too_much, search_from}
 use Rattle.planning.specs.Sum.{sum as sum_of}
@@ -56,10 +56,10 @@ module _ {task : Task} {cells : ℕ} (range : InSearchRange task cells) where
         }
 
     -- whatever the allowance
-    pub begun : {run : Run} (granted : ℕ) → granted ≤ most_tries
+    pub begun : {run : Run} (granted : ℕ)
         → run.task.now ≡ record task { allowance = granted } → length run.table.now ≡ cells → run.tries ≡ 0
         → UnderWay run (first_state most_engines amount left opened)
-    begun granted l is_task long at_first =
+    begun granted is_task long at_first =
         rw a
         (record {
           kept =
@@ -75,14 +75,12 @@ module _ {task : Task} {cells : ℕ} (range : InSearchRange task cells) where
                     };
               });
           sized = rw is_task (first-sized begins);
-          counts =
+          room =
               rw (is_task, long)
               (record {
                 engine_count = range.counts.engine_count;
                 delivery_count = range.counts.delivery_count;
-                paired = range.counts.paired;
                 table = range.counts.table;
-                tries = l;
               });
           allowed = omega (arith, at_first);
         })

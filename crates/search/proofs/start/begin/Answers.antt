@@ -20,7 +20,7 @@ returns-then-total c =
 pub choose-outcome-requires : goal.choose-outcome-requires
 choose-outcome-requires c =
     begun c.requires c.first_deliveries-left.result c.open_engines.result
-    c.first_amounts.ensures c.first_deliveries-left.ensures c.open_engines.ensures _ (omega (arith, c.requires.counts.tries)) refl refl refl
+    c.first_amounts.ensures c.first_deliveries-left.ensures c.open_engines.ensures _ refl refl refl
 
 pub returns : goal.returns
 returns c =

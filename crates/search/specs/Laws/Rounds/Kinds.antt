@@ -18,8 +18,8 @@ use Rattle.search.specs.declared.state.State.{State}
 use Rattle.search.specs.declared.Task.{Task}
 use Rattle.search.specs.Laws.Layout.Picked.{rest_range}
 use Rattle.search.specs.Laws.Layout.Remaining.{remaining_open, remaining-closed}
-use Rattle.search.specs.Layout.{remaining_at, rest_of, state_of, document, Kept, Sized, Picked, Laid, CutOff}
-use Rattle.search.specs.Promises.{engines_of, deliveries_of, CountsInRange}
+use Rattle.search.specs.Layout.{remaining_at, rest_of, state_of, document, Kept, Sized, Picked, Laid, CutOff, Room}
+use Rattle.search.specs.Promises.{engines_of, deliveries_of}
 use Rattle.search.specs.Sets.{has}
 
 -- D or F
@@ -87,7 +87,7 @@ pub record Held (task : Task) (s : State) (pick : Pick) (lent : List ℕ) : Type
   pub kept : Kept task.energies.now task.limits.now s
   pub sized : Sized (engines_of task) (deliveries_of task) s.left s.«open»
   pub picked : Picked task.energies.now s pick
-  pub counts : CountsInRange task (length lent)
+  pub room : Room task (length lent)
 
 module _ {task : Task} {s : State} {pick : Pick} {lent : List ℕ} (held : Held task s pick lent) where
   abbrev state : Document

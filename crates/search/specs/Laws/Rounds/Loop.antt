@@ -58,7 +58,7 @@ pub loop_starts : (kind : Kind) {s : State} {pick : Pick} {run : Run} → UnderW
     → Picked run.task.now.energies.now s pick → LimitFor kind (limit_of run.task.now.limits.now s pick.row) → Loop kind s pick run run s.«open»
 loop_starts kind {s} {pick} {run} under_way picked applies =
     let held : Held run.task.now s pick run.table.now =
-    record { kept = under_way.kept; sized = under_way.sized; picked = picked; counts = under_way.counts } in
+    record { kept = under_way.kept; sized = under_way.sized; picked = picked; room = under_way.room } in
     record {
       held = held;
       applies = applies;
@@ -68,7 +68,7 @@ loop_starts kind {s} {pick} {run} under_way picked applies =
             closed = closed held kind;
             inside = held.sized.engine_set;
             in_row = held.sized.delivery_set pick.row picked.is_left;
-            room = held.counts.table;
+            room = held.room.table;
           })
           (round_result kind run.task.now s pick.row run.tries)
           under_way.allowed;
@@ -155,7 +155,7 @@ module _ {kind : Kind} {s : State} {pick : Pick} {before now : Run} {set : ℕ} 
               record {
                 kept = after_kept task.energies.now task.limits.now s pick.row next r kind moves;
                 sized = after-sized task.energies.now task.limits.now s pick.row next r kind moves (engines_of task) (deliveries_of task) l.held.sized;
-                counts = rw (ap length l.walk.same) l.held.counts;
+                room = rw (ap length l.walk.same) l.held.room;
                 allowed = omega (arith, l.walk.allowed, more);
               },
             )

@@ -34,7 +34,7 @@ choose-returns-in-Finished t c =
     let empty = c.fill.ensures.after (λ y e. e) in
     turn_answers _ _ _ Finished (c.in-Finished.ensures.step _ _ c.requires.sized)
     (record {
-      ends = finished_answers c.args.self.now.task.now c.args.s _ _ _ _ c.requires.counts.table empty;
+      ends = finished_answers c.args.self.now.task.now c.args.s _ _ _ _ c.requires.room.table empty;
       same_task = refl;
       same_table = refl;
       same_length = ap length empty ∙ length-replicate _ _;
