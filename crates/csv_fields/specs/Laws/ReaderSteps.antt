@@ -62,15 +62,15 @@ no-text LineFeed p t at form text other = refl
 no-text Refused p t at form text other = refl
 
 -- every byte but a comma and a CR breaks it, where text does
-end-broken : (k : ByteClass) → (k ≡ Comma → ⊥) → (k ≡ CarriageReturn → ⊥) → (t : Bool) (at : ℕ) (form : FieldForm)
-    → end_by k t at form broken_field ≡ broken_field
+pub end-broken : (k : ByteClass) → (k ≡ Comma → ⊥) → (k ≡ CarriageReturn → ⊥) → (t : Bool) (at : ℕ) (form : FieldForm) (text : Reading)
+    → (k ≡ Text → text ≡ broken_field) → end_by k t at form text ≡ broken_field
 unfolding end_by
-end-broken Text p q t at form = refl
-end-broken Quote p q t at form = refl
-end-broken Comma p q t at form = absurd (p refl)
-end-broken CarriageReturn p q t at form = absurd (q refl)
-end-broken LineFeed p q t at form = refl
-end-broken Refused p q t at form = refl
+end-broken Text p q t at form text e = e refl
+end-broken Quote p q t at form text e = refl
+end-broken Comma p q t at form text e = absurd (p refl)
+end-broken CarriageReturn p q t at form text e = absurd (q refl)
+end-broken LineFeed p q t at form text e = refl
+end-broken Refused p q t at form text e = refl
 
 -- a byte inside quotes goes on where it is allowed there and no quote
 inside-allowed : (k : ByteClass) → (k ≡ Quote → ⊥) → (k ≡ Refused → ⊥) → (t : Bool) (on pair closed : Reading) → inside_read k t on pair closed ≡ on
@@ -127,7 +127,7 @@ module _ (file : List ℕ) where
         rw (bytes-from file at h, quoted_byte form at (get_or file at 0) (drop (at + 1) file), behind)
 
     -- what is plain inside quotes is allowed there
-    quoted-plain : (form : FieldForm) → is_plain true (class_of (get_or file at 0)) ≡ true
+    pub quoted-plain : (form : FieldForm) → is_plain true (class_of (get_or file at 0)) ≡ true
         → quoted_read form at (drop at file) ≡ quoted_read form (at + 1) (drop (at + 1) file)
     unfolding is_plain
     quoted-plain form e =
@@ -203,7 +203,7 @@ module _ (file : List ℕ) where
     pub end_other : (get_or file at 0 ≡ comma → ⊥) → (get_or file at 0 ≡ carriage_return → ⊥) → end_read at form (drop at file) ≡ broken_field
     end_other p q =
         end_step at h form
-        ∙ end-broken _ (λ e. p (class_means (get_or file at 0) e)) (λ e. q (class_means (get_or file at 0) e)) _ at form
+        ∙ end-broken _ (λ e. p (class_means (get_or file at 0) e)) (λ e. q (class_means (get_or file at 0) e)) _ at form broken_field (λ e. refl)
 
   -- a field that is not quoted ends behind its text, or breaks there
   pub plain_ends : (from r : ℕ) → Found file false from (length file) r → plain_read from (drop from file) ≡ end_read r Part (drop r file)
