@@ -18,9 +18,13 @@ fn ended(file: &[u8], end: usize, form: FieldForm) -> Option<FieldRead>
 {
     let (ended_by, next) = match file.get(end) {
         None => (FieldEnd::FileEnd, end),
-        Some(0x2C) => (FieldEnd::Comma, end + 1),
-        Some(0x0D) if holds(file, end + 1, 0x0A) => (FieldEnd::RecordEnd, end + 2),
-        Some(_) => return None,
+        Some(&b) => match class_of(b) {
+            ByteClass::Comma => (FieldEnd::Comma, end + 1),
+            ByteClass::CarriageReturn if holds(file, end + 1, 0x0A) => {
+                (FieldEnd::RecordEnd, end + 2)
+            }
+            _ => return None,
+        },
     };
     Some(FieldRead {
         end,

@@ -1,18 +1,17 @@
 -- The steps of the reader, at the places of a file: what it finds from a byte on is what it finds behind that byte, or ends there.
 -- Assumes nothing.
-use Rattle.std.specs.Prelude.{◌≡◌, refl, Bool, true, false, List, [], ◌∷◌, ℕ, ◌+◌, ◌≤◌, ◌<◌, eqb, ltb, length, drop, get_or}
+use Rattle.std.specs.Prelude.{◌≡◌, refl, Bool, true, false, cond, List, [], ◌∷◌, ℕ, ◌+◌, ◌≤◌, ◌<◌, eqb, ltb, length, drop, get_or}
 use Rattle.std.proofs.Common.{sym, ◌∙◌, arith, drop_of_length-le, drop-drop, eqb-true, ltb-true, ltb-false}
 use Rattle.std.proofs.lemmas.Bool.{false≢true}
 use Rattle.rfc4180.specs.declared.ByteClass.{ByteClass}
 use Rattle.csv_fields.specs.declared.FieldForm.{FieldForm}
 use Rattle.csv_fields.specs.declared.FieldForm.TheVariants.{Part, Doubled}
 use Rattle.rfc4180.specs.declared.ByteClass.TheVariants.{Text, Quote, Comma, CarriageReturn, LineFeed, Refused}
-use Rattle.rfc4180.specs.Bytes.{quote, comma, carriage_return, line_feed, class_of}
+use Rattle.rfc4180.specs.Bytes.{quote, line_feed, class_of}
 use Rattle.csv_fields.specs.Results.{Reading}
 use Rattle.csv_fields.specs.Reader.{begins_with, end_by, end_read, plain_read, inside_read, quoted_read}
 use Rattle.csv_fields.specs.Scans.{is_plain, Found}
 use Rattle.csv_fields.specs.Spans.{before_comma, before_record_end, broken_field, with_file}
-use Rattle.rfc4180.proofs.Laws.Classes.{class_means}
 use Rattle.rfc4180.proofs.Laws.Places.{bytes-from}
 use Rattle.csv_fields.specs.Laws.Scans.{all-passed}
 
@@ -60,6 +59,13 @@ no-text CarriageReturn p true at form text other = refl
 no-text CarriageReturn p false at form text other = refl
 no-text LineFeed p t at form text other = refl
 no-text Refused p t at form text other = refl
+
+-- a CR ends a field where LF follows, and else breaks it
+pub cr_ends : {k : ByteClass} → k ≡ CarriageReturn → (t : Bool) (at : ℕ) (form : FieldForm) (text : Reading)
+    → end_by k t at form text ≡ cond t (before_record_end at form) broken_field
+unfolding end_by
+cr_ends e true at form text = rw e
+cr_ends e false at form text = rw e
 
 -- every byte but a comma and a CR breaks it, where text does
 pub end-broken : (k : ByteClass) → (k ≡ Comma → ⊥) → (k ≡ CarriageReturn → ⊥) → (t : Bool) (at : ℕ) (form : FieldForm) (text : Reading)
@@ -186,24 +192,21 @@ module _ (file : List ℕ) where
 
   -- or a field ends before a comma or CR LF, and is broken before any other byte
   module _ (at : ℕ) (form : FieldForm) (h : at < length file) where
-    pub end_comma : get_or file at 0 ≡ comma → end_read at form (drop at file) ≡ before_comma at form
-    unfolding end_by class_of
+    pub end_comma : class_of (get_or file at 0) ≡ Comma → end_read at form (drop at file) ≡ before_comma at form
+    unfolding end_by
     end_comma e = end_step at h form ∙ rw e
 
-    pub end_crlf : get_or file at 0 ≡ carriage_return → begins_with line_feed (drop (at + 1) file) ≡ true
+    pub end_crlf : class_of (get_or file at 0) ≡ CarriageReturn → begins_with line_feed (drop (at + 1) file) ≡ true
         → end_read at form (drop at file) ≡ before_record_end at form
-    unfolding end_by class_of
-    end_crlf e next = end_step at h form ∙ rw (e, next)
+    end_crlf e next = end_step at h form ∙ cr_ends e _ at form broken_field ∙ rw next
 
-    pub end_cr : get_or file at 0 ≡ carriage_return → begins_with line_feed (drop (at + 1) file) ≡ false
+    pub end_cr : class_of (get_or file at 0) ≡ CarriageReturn → begins_with line_feed (drop (at + 1) file) ≡ false
         → end_read at form (drop at file) ≡ broken_field
-    unfolding end_by class_of
-    end_cr e next = end_step at h form ∙ rw (e, next)
+    end_cr e next = end_step at h form ∙ cr_ends e _ at form broken_field ∙ rw next
 
-    pub end_other : (get_or file at 0 ≡ comma → ⊥) → (get_or file at 0 ≡ carriage_return → ⊥) → end_read at form (drop at file) ≡ broken_field
-    end_other p q =
-        end_step at h form
-        ∙ end-broken _ (λ e. p (class_means (get_or file at 0) e)) (λ e. q (class_means (get_or file at 0) e)) _ at form broken_field (λ e. refl)
+    pub end_other : (class_of (get_or file at 0) ≡ Comma → ⊥) → (class_of (get_or file at 0) ≡ CarriageReturn → ⊥)
+        → end_read at form (drop at file) ≡ broken_field
+    end_other p q = end_step at h form ∙ end-broken _ p q _ at form broken_field (λ e. refl)
 
   -- a field that is not quoted ends behind its text, or breaks there
   pub plain_ends : (from r : ℕ) → Found file false from (length file) r → plain_read from (drop from file) ≡ end_read r Part (drop r file)
