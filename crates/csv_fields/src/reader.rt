@@ -56,23 +56,27 @@ fn read_plain(file: &[u8], from: usize) -> Option<FieldRead>
 }
 
 // A quoted field, from the place behind its opening quote on.
-#[tactic(auto, using(crate::specs::Laws::ReaderSteps::inside_last, crate::specs::Laws::ReaderSteps::inside_pair, crate::specs::Laws::ReaderSteps::inside_closed, crate::specs::Laws::ReaderSteps::inside_refused, crate::specs::Laws::ReaderSteps::inside_on, crate::specs::Laws::ReaderSteps::inside_run))]
+#[tactic(auto, using(crate::specs::Laws::ReaderSteps::quote_class, crate::specs::Laws::ReaderSteps::class_quote, crate::specs::Laws::ReaderSteps::inside_last, crate::specs::Laws::ReaderSteps::inside_pair, crate::specs::Laws::ReaderSteps::inside_closed, crate::specs::Laws::ReaderSteps::inside_refused, crate::specs::Laws::ReaderSteps::inside_on, crate::specs::Laws::ReaderSteps::inside_run))]
 fn read_quoted(file: &[u8], from: usize) -> Option<FieldRead>
     ensures { result ≡ quoted_read Part from (drop from file.now) }
 {
     let mut at = from;
     let mut form = FieldForm::Part;
-    // It goes on by runs, by pairs of quotes and by bytes, so a `for` over the places does not fit.
+    // It goes on by runs, by pairs of quotes and by bytes, so a `for` over the places does not fit. A quote is told before the other classes:
+    // matched among the six, files of quotes take twice the time.
     while let Some(&b) = file.get(at) {
-        match class_of(b) {
-            ByteClass::Quote if holds(file, at + 1, 0x22) => {
-                form = FieldForm::Doubled;
-                at += 2;
+        if b == 0x22 {
+            if !holds(file, at + 1, 0x22) {
+                return ended(file, at + 1, form);
             }
-            ByteClass::Quote => return ended(file, at + 1, form),
-            ByteClass::Text | ByteClass::Comma => at = plain_end::<true>(file, at + 1),
-            ByteClass::CarriageReturn | ByteClass::LineFeed => at += 1,
-            ByteClass::Refused => return None,
+            form = FieldForm::Doubled;
+            at += 2;
+        } else {
+            match class_of(b) {
+                ByteClass::Text | ByteClass::Comma => at = plain_end::<true>(file, at + 1),
+                ByteClass::CarriageReturn | ByteClass::LineFeed => at += 1,
+                ByteClass::Quote | ByteClass::Refused => return None,
+            }
         }
     }
     None

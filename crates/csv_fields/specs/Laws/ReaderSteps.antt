@@ -12,6 +12,7 @@ use Rattle.csv_fields.specs.Results.{Reading}
 use Rattle.csv_fields.specs.Reader.{begins_with, end_by, end_read, plain_read, inside_read, quoted_read}
 use Rattle.csv_fields.specs.Scans.{is_plain, Found}
 use Rattle.csv_fields.specs.Spans.{before_comma, before_record_end, broken_field, with_file}
+use Rattle.rfc4180.proofs.Laws.Classes.{class_means}
 use Rattle.rfc4180.proofs.Laws.Places.{bytes-from}
 use Rattle.csv_fields.specs.Laws.Scans.{all-passed}
 
@@ -37,6 +38,14 @@ module _ (bytes : List ℕ) (at b : ℕ) where
       go false p = absurd (false≢true (begins-not (ltb-false at (length bytes) p) ∙ e))
 
 -- ---- one byte
+
+-- a quote, and nothing else, is of the class that is named after it
+pub quote_class : (b : ℕ) → b ≡ quote → class_of b ≡ Quote
+unfolding class_of
+quote_class b e = rw e
+
+pub class_quote : (b : ℕ) → class_of b ≡ Quote → b ≡ quote
+class_quote b e = class_means b e
 
 -- the byte at which a field may end goes on where it is text
 end-plain : (k : ByteClass) → is_plain false k ≡ true → (t : Bool) (at : ℕ) (form : FieldForm) (text : Reading) → end_by k t at form text ≡ text
