@@ -133,7 +133,7 @@ module _ {file : List ℕ} {from count : ℕ} {places : List FieldPlace} {at : �
       (rw p.whole (left-broken p.fields (raw_fields (first_record (drop at file)).text) (broken_record file at (sym reads.equals ∙ nothing))))
 
   module _ {read : FieldRead} (is : r ≡ Some read) where
-    told : ReadAt file at read
+    pub told : ReadAt file at read
     told = field_told file at (sym reads.equals ∙ is)
 
     next-text : (first_record (drop from file)).text ≡ p.done ++ (told.raw ++ told.tail)

@@ -49,12 +49,12 @@ module _ (file : List ℕ) (fits : (leb 1 (length file) && leb (length file) mos
       (ap require_engine (by-fields (further_records (length file) (further (first_record file))) (fields_of 1 (first_record file).text)))
 
   -- record 1 has a fault
-  opening_faulty : (what : Fault) → read_opening (first_record file).text ≡ fault what 1 → read_file file ≡ fault what 1
+  pub opening_faulty : (what : Fault) → read_opening (first_record file).text ≡ fault what 1 → read_file file ≡ fault what 1
   unfolding require_engine ◌>>=◌ fault
   opening_faulty what e = file-read ∙ rw e
 
   -- or begins the plan
-  opening_begins : (f : FilePlan) (next : ℕ) → next ≡ (record_span file 0).next → read_opening (first_record file).text ≡ accepted f
+  pub opening_begins : (f : FilePlan) (next : ℕ) → next ≡ (record_span file 0).next → read_opening (first_record file).text ≡ accepted f
       → read_file file ≡ read_behind file next f
   unfolding ◌>>=◌ read_behind
   opening_begins f next behind e = file-read ∙ rw (e, behind)

@@ -61,7 +61,7 @@ item-found most rule names x room named first second r = item-checked most rule 
 -- ---- by the texts in the file
 
 -- an accepted item: there is room for it, and its name is as long as a name may be
-item_fits : (most : ℕ) (rule : Rule) (names : List (List ℕ)) (x : FourFields) (v : Figures) → read_by most rule names 0 x ≡ accepted v
+pub item_fits : (most : ℕ) (rule : Rule) (names : List (List ℕ)) (x : FourFields) (v : Figures) → read_by most rule names 0 x ≡ accepted v
     → (length names < most) × (length x.second ≤ most_name_bytes)
 item_fits most rule names x v read =
     let told = (read_item_iff most _ _ _ _ names 0 x v).0 read in

@@ -45,7 +45,7 @@ insides text =
     }
 
 -- record 1 is read by that as by the fields' values: words and numbers hold no quote
-opening_insides : {text : List ℕ} {x : FourFields} → Valued text x → read_opening text ≡ read_plan (insides text)
+pub opening_insides : {text : List ℕ} {x : FourFields} → Valued text x → read_opening text ≡ read_plan (insides text)
 unfolding read_opening ◌>>=◌ read_plan read_mode read_number ascii holds_quote
 opening_insides {text} {x} v =
     rw (
