@@ -55,7 +55,7 @@ impl<const MOST: usize> Items<MOST> {
         self.names
             .iter()
             .take(self.count)
-            .position(|other| name == other.bytes())
+            .position(|other| other.is(name))
     }
 
     // Adds the item of a record: 7 for one too many, then its fields from the left.

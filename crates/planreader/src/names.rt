@@ -1,5 +1,6 @@
 // Names: whether one is sound, and one by value.
-ghost use Rattle.std.specs.Prelude.{◌≡◌, ℕ, ◌≤◌, leb, ◌&&◌, length};
+ghost use Rattle.std.specs.Prelude.{◌≡◌, ℕ, ◌≤◌, leb, nat_eq, ◌&&◌, length};
+ghost use Rattle.std.specs.Cmp.Lexicographic.{pointwise};
 ghost use Rattle.std.specs.List.{list_all};
 ghost use Rattle.planfile.specs.Bounds.{most_name_bytes, least_name_byte, most_name_byte};
 ghost use Rattle.planfile.specs.Reading.{sound_name};
@@ -55,6 +56,19 @@ impl Name {
         ensures short { length self.now ≤ most_name_bytes }
     {
         &self.bytes[..usize::from(self.size)]
+    }
+
+    // Whether a text is this name, from the back: names on a site begin alike and end in a number.
+    pub(crate) fn is(&self, text: &[u8]) -> bool
+        ensures { result ≡ pointwise nat_eq text.now self.now }
+    {
+        let bytes = self.bytes();
+        text.len() == bytes.len()
+            && text
+                .iter()
+                .rev()
+                .zip(bytes.iter().rev())
+                .all(|(a, b)| a == b)
     }
 }
 
