@@ -56,14 +56,14 @@ fn read_plain(file: &[u8], from: usize) -> Option<FieldRead>
 }
 
 // A quoted field, from the place behind its opening quote on.
-#[tactic(auto, using(crate::specs::Laws::ReaderSteps::quote_class, crate::specs::Laws::ReaderSteps::class_quote, crate::specs::Laws::ReaderSteps::inside_last, crate::specs::Laws::ReaderSteps::inside_pair, crate::specs::Laws::ReaderSteps::inside_closed, crate::specs::Laws::ReaderSteps::inside_refused, crate::specs::Laws::ReaderSteps::inside_on, crate::specs::Laws::ReaderSteps::inside_run))]
+#[tactic(auto, using(crate::specs::Laws::ReaderSteps::quote_class, crate::specs::Laws::ReaderSteps::class_quote, crate::specs::Laws::ReaderSteps::inside_last, crate::specs::Laws::ReaderSteps::inside_pair, crate::specs::Laws::ReaderSteps::inside_closed, crate::specs::Laws::ReaderSteps::inside_refused, crate::specs::Laws::ReaderSteps::inside_on, crate::specs::Laws::ReaderSteps::inside_plain))]
 fn read_quoted(file: &[u8], from: usize) -> Option<FieldRead>
     ensures { result ≡ quoted_read Part from (drop from file.now) }
 {
     let mut at = from;
     let mut form = FieldForm::Part;
-    // It goes on by runs, by pairs of quotes and by bytes, so a `for` over the places does not fit. A quote is told before the other classes:
-    // matched among the six, files of quotes take twice the time.
+    // It goes on by runs, by pairs of quotes and by bytes, so a `for` over the places does not fit. One test after the other: a match on the
+    // class becomes a table of jumps, by which a file of quotes took half as long again.
     while let Some(&b) = file.get(at) {
         if b == 0x22 {
             if !holds(file, at + 1, 0x22) {
@@ -71,12 +71,12 @@ fn read_quoted(file: &[u8], from: usize) -> Option<FieldRead>
             }
             form = FieldForm::Doubled;
             at += 2;
+        } else if is_plain::<true>(b) {
+            at = plain_end::<true>(file, at + 1);
+        } else if class_of(b) == ByteClass::Refused {
+            return None;
         } else {
-            match class_of(b) {
-                ByteClass::Text | ByteClass::Comma => at = plain_end::<true>(file, at + 1),
-                ByteClass::CarriageReturn | ByteClass::LineFeed => at += 1,
-                ByteClass::Quote | ByteClass::Refused => return None,
-            }
+            at += 1;
         }
     }
     None

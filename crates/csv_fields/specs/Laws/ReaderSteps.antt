@@ -182,6 +182,11 @@ module _ (file : List ℕ) where
       unfolding inside_read
       inside_refused e = sym (so_far ∙ quoted-step at h form ∙ rw e)
 
+      -- what is plain is passed, and a run of plain bytes behind it
+      pub inside_plain : is_plain true (class_of (get_or file at 0)) ≡ true → (r : ℕ) → Found file true (at + 1) (length file) r
+          → ReadsOn file from form r
+      inside_plain e r found = so_far ∙ quoted-plain at h form e ∙ quoted-found form (at + 1) r found
+
       -- every other byte is passed, and a run of plain ones behind it
       module _ (no_quote : class_of (get_or file at 0) ≡ Quote → ⊥) (allowed : class_of (get_or file at 0) ≡ Refused → ⊥) where
         pub inside_on : ReadsOn file from form (at + 1)
