@@ -69,7 +69,7 @@ impl<'a> Accepted<'a> {
         }
         let (answer, found) = probes.bisect(ended);
         if answer.outcome == Outcome::Found {
-            self.table.copy_from_slice(found);
+            planning::copy(found, self.table);
         }
         answer
     }

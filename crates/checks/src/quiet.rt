@@ -3,7 +3,7 @@ ghost use Rattle.std.specs.Prelude.{◌≡◌, [], map};
 ghost use Rattle.planning.specs.Numbers.{quiet_of, quiet_three, quiet_fault, check_quiet};
 ghost use Rattle.planning.specs.Refusals.{verdict_of};
 
-use planning::{Fault, MOST_MINUTES, QuietSpan, Refusal, span_fits};
+use planning::{Fault, MOST_MINUTES, QuietSpan, Refusal};
 
 // Three numbers each; of so many engines.
 pub(crate) fn check_spans(quiet: &[u64], engines: u64) -> Result<(), Refusal>
@@ -32,7 +32,7 @@ fn check_span(earlier: &[[u64; 3]], span: QuietSpan<u64>, engines: u64) -> Resul
     if !(1..=engines).contains(&span.engine) {
         return Err(Fault::UnknownEngine.at(0));
     }
-    if !span_fits(earlier, span) {
+    if !span.fits_among(earlier) {
         return Err(Fault::QuietSpan.at(0));
     }
     Ok(())

@@ -1,12 +1,12 @@
-// The types that the planner's answers and contracts speak of, the bounds, a fault's number and its refusal at a place, and the test of a quiet
-// span. Their meaning is given in specs/.
+// The types that the planner's answers and contracts speak of, the bounds, a fault's number and its refusal at a place, numbers copied, and the test
+// of a quiet span. Their meaning is given in specs/.
 #![tactic(auto)]
 
-ghost use Rattle.std.specs.Prelude.{◌≡◌, ◌==◌, nat_lt, ◌+◌, ◌&&◌, map, filter};
+ghost use Rattle.std.specs.Prelude.{◌≡◌, ◌==◌, nat_lt, ◌+◌, ◌&&◌, length, take, map, filter};
 ghost use Rattle.std.specs.List.{list_all, enumerate_from};
-ghost use Rattle.planning.specs.Tables.{at};
+ghost use Rattle.planning.specs.Tables.{at, over_front};
 ghost use Rattle.planning.specs.Bounds.{most_spans};
-ghost use Rattle.planning.specs.Numbers.{quiet_three};
+ghost use Rattle.planning.specs.Numbers.{quiet_of, quiet_three};
 ghost use Rattle.planning.specs.Quiet.{spans_of, clear, fits};
 ghost use Rattle.planning.specs.Refusals.{fault_number};
 
@@ -144,6 +144,17 @@ pub struct PlanLists<'a> {
     pub quiet: &'a [u64],
 }
 
+// Numbers copied to the front of a list, as many as it has room for. By a loop, of which the compiler makes a `memcpy`: `copy_from_slice` is a
+// `memmove`, and the C archive would need that name from outside too.
+pub fn copy(numbers: &[u64], to: &mut [u64])
+    ensures { to.new ≡ over_front (take (length to.old) numbers.now) to.old }
+{
+    let n = to.len().min(numbers.len());
+    for (i, number) in numbers[..n].iter().enumerate() {
+        to[i] = *number;
+    }
+}
+
 impl Fault {
     // A refusal by that fault, at a place.
     pub fn at(self, place: u64) -> Refusal
@@ -197,12 +208,22 @@ impl QuietSpan<u64> {
             .enumerate()
             .all(|(k, [_, from, to])| k + 1 < MOST_SPANS && self.is_clear_of(*from, *to))
     }
+
+    // Whether it may stand behind its engine's earlier ones, among those given by three numbers each: 11, as a test.
+    #[tactic(auto, using(crate::proofs::Laws::Triples::fits_threes))]
+    pub fn fits_among(self, earlier: &[[u64; 3]]) -> bool
+        ensures { result ≡ fits (record { from = self.from; to = self.to }) (spans_of self.engine (map quiet_three earlier.now)) }
+    {
+        self.from < self.to && self.fits_behind(earlier)
+    }
 }
 
-// Whether a span may stand behind an engine's earlier ones, among those given by three numbers each: 11, as a test.
-#[tactic(auto, using(crate::proofs::Laws::Triples::fits_threes))]
-pub fn span_fits(earlier: &[[u64; 3]], span: QuietSpan<u64>) -> bool
-    ensures { result ≡ fits (record { from = span.from; to = span.to }) (spans_of span.engine (map quiet_three earlier.now)) }
+// Whether a span may stand behind an engine's earlier ones, among those of a list of three numbers each: 11, as a test. What is left behind whole
+// threes is not looked at.
+#[tactic(auto, using(crate::proofs::Laws::Triples::quiet_threes))]
+pub fn span_fits(quiet: &[u64], engine: u64, from: u64, to: u64) -> bool
+    ensures { result ≡ fits (record { from = from; to = to }) (spans_of engine (quiet_of quiet.now)) }
 {
-    span.from < span.to && span.fits_behind(earlier)
+    let (threes, _) = quiet.as_chunks::<3>();
+    QuietSpan { engine, from, to }.fits_among(threes)
 }

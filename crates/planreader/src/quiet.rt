@@ -7,7 +7,7 @@ ghost use Rattle.planreader.specs.Quiet.{SpanRead, AddsQuiet};
 
 use crate::items::ItemFields;
 use crate::{FilePlan, Items, numeral};
-use planning::{Fault, MOST_ENGINES, MOST_MINUTES, QuietSpan, span_fits};
+use planning::{Fault, MOST_ENGINES, MOST_MINUTES, QuietSpan};
 
 // A quiet span behind earlier ones of three numbers each: 10 where its engine is none of these, then its fields from the left, then 11.
 fn read(
@@ -23,7 +23,7 @@ fn read(
     let to = numeral::in_range(fields.fourth, &minutes).ok_or(Fault::Value)?;
     let engine = (place + 1) as u64;
     let span = QuietSpan { engine, from, to };
-    if !span_fits(quiet, span) {
+    if !span.fits_among(quiet) {
         return Err(Fault::QuietSpan);
     }
     Ok(span)

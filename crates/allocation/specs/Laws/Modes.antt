@@ -1,16 +1,18 @@
 -- What fixed and shortest come to: by the search at MINUTES, and by the bisection after it.
 -- Assumes nothing.
-use Rattle.std.specs.Prelude.{◌≡◌, ◌≢◌, ℕ}
+use Rattle.std.specs.Prelude.{◌≡◌, ◌≢◌, ℕ, length, take}
 use Rattle.std.proofs.Math.Path.{refl}
-use Rattle.std.proofs.Common.{sym, ap, ◌∙◌}
+use Rattle.std.proofs.Common.{sym, ap, ◌∙◌, take_all, arith}
 use mathlib.Core.List.{List}
 use Rattle.planning.specs.declared.Answer.{Answer}
 use Rattle.planning.specs.declared.Mode.{Mode}
 use Rattle.planning.specs.declared.Mode.TheVariants.{Fixed, Shortest}
 use Rattle.planning.specs.declared.Outcome.TheVariants.{Found, None, Stopped}
+use Rattle.planning.proofs.Laws.OnExit.{over-whole}
 use Rattle.planning.specs.Modes.{search_at, Planned, planned_at, by_outcome, bisect, shortest, planned_in, planned, answer_of, outcome_of, tries_of}
 use Rattle.planning.specs.Plan.{Plan}
 use Rattle.planning.specs.Search.{Result, found, none, stopped}
+use Rattle.planning.specs.Tables.{over_front}
 use Rattle.search.specs.declared.Ended.{Ended}
 use Rattle.search.specs.Promises.{ended_of, written}
 use Rattle.allocation.specs.Ends.{Ends, Finds, Answers, AnswersFound, answered}
@@ -104,6 +106,12 @@ module _ (plan : Plan) where
       go (found tries table) h = unfold ended_of in absurd (other (ap (λ (e : Ended). e.outcome) h))
       go (none tries) h = unfold by_outcome in refl
       go (stopped tries) h = unfold by_outcome in refl
+
+-- a table copied over a lent one of its length is that table
+pub copied_whole : (left lent : List ℕ) {table : List ℕ} → length left ≡ length lent → table ≡ over_front (take (length lent) left) lent → table ≡ left
+copied_whole left lent same copied =
+    let whole : take (length lent) left ≡ left = take_all (length lent) left (omega arith) in
+    copied ∙ rw whole (over-whole left lent same)
 
 -- the bisection's answer with the table that it found, or the lent one kept
 module _ {a : Planned} {r : Answer} {left : List ℕ} (answers : AnswersFound a r left) where

@@ -13,9 +13,9 @@ pub returns-then-not-contains : goal.returns-then-not-contains
 unfolding quiet_fault within check ◌then◌ verdict_of
 returns-then-not-contains c = grind (arith, nat_tests)
 
-pub returns-then-not-span_fits : goal.returns-then-not-span_fits
+pub returns-then-not-fits_among : goal.returns-then-not-fits_among
 unfolding quiet_fault within check ◌then◌ verdict_of
-returns-then-not-span_fits c = grind (arith, nat_tests)
+returns-then-not-fits_among c = grind (arith, nat_tests)
 
 pub returns : goal.returns
 unfolding quiet_fault within check ◌then◌ verdict_of

@@ -30,13 +30,13 @@ returns-in_err-to c =
     let to = by-ends c.new-minutes.result _ c.new-minutes.ensures.start c.new-minutes.ensures.end c.in_range-2.ensures in
     rw is (quiet-found _ _ (fields_in c.args.fields) place (sym c.in_ok-from.ensures.ok_part ∙ from) (sym none ∙ to))
 
-pub returns-then-not-span_fits : goal.returns-then-not-span_fits
-returns-then-not-span_fits c =
+pub returns-then-not-fits_among : goal.returns-then-not-fits_among
+returns-then-not-fits_among c =
     let place = sym c.in_ok-place.ensures.ok_part ∙ c.find.ensures in
     let from = by-ends c.new-minutes.result _ c.new-minutes.ensures.start c.new-minutes.ensures.end c.in_range.ensures in
     let to = by-ends c.new-minutes.result _ c.new-minutes.ensures.start c.new-minutes.ensures.end c.in_range-2.ensures in
     quiet-span _ _ (fields_in c.args.fields) place (sym c.in_ok-from.ensures.ok_part ∙ from) (sym c.in_ok-to.ensures.ok_part ∙ to) (omega arith)
-    c.if-not-span_fits.ensures
+    c.if-not-fits_among.ensures
 
 pub returns : goal.returns
 returns c =
@@ -44,4 +44,4 @@ returns c =
     let from = by-ends c.new-minutes.result _ c.new-minutes.ensures.start c.new-minutes.ensures.end c.in_range.ensures in
     let to = by-ends c.new-minutes.result _ c.new-minutes.ensures.start c.new-minutes.ensures.end c.in_range-2.ensures in
     quiet_read _ _ (fields_in c.args.fields) place (sym c.in_ok-from.ensures.ok_part ∙ from) (sym c.in_ok-to.ensures.ok_part ∙ to) (omega arith)
-    c.if-not-span_fits.ensures
+    c.if-not-fits_among.ensures
