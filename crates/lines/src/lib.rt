@@ -6,6 +6,7 @@ mod bytes;
 mod field;
 mod number;
 mod output;
+mod place;
 
 pub use number::MOST_DIGITS;
 pub use output::Output;

@@ -19,7 +19,7 @@ impl<'a> Output<'a> {
         Output { bytes, at: 0 }
     }
 
-    // How many bytes were put.
+    // The place of the next text: how many bytes were put, where it was not moved.
     pub fn len(&self) -> usize
         ensures { result ≡ self.now.at }
     {
