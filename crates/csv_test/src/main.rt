@@ -7,7 +7,7 @@ ghost use Rattle.std.specs.Prelude.{◌<◌, length, IfSome};
 
 use csv_fields::{FieldEnd, FieldForm, FieldRead, UndoError};
 use lines::{Output, WriteError};
-use report::{Scanner, print, read_full, shown_page};
+use report::{Scanner, print, read_full, shown_page, written};
 use std::io::{self, Write};
 
 // The value of a field with doubled quotes, with so much space to undo them in; none where that is more than there is.
@@ -111,7 +111,7 @@ fn show_written<W: Write>(to: &mut W, value: &[u8]) -> io::Result<()> {
     print(to, shown_page(b"\nvalue ", value, b""))?;
     print(to, shown_page(b"\noutput ", &output, b"\nread back"))?;
     match wrote {
-        Ok(()) => show_back(to, output[2..].get(..n).unwrap_or(&[]), value.len()),
+        Ok(()) => show_back(to, written(&output[2..], Ok(n)), value.len()),
         Err(WriteError::Refused) => to.write_all(b" nothing: refused"),
         Err(WriteError::TooLong) => to.write_all(b" nothing: too long"),
     }

@@ -1,6 +1,8 @@
 // The exhaustive planner: it tries every cutting. It knows what a cutting is and nothing of the search: no bulk, no saturation, no
 // straight fill. Cells are filled in the order of the table, each with every piece from 0; pieces that are already too much for the
 // delivery or the engine are not continued.
+ghost use Rattle.std.specs.Prelude.{◌≤◌};
+
 use crate::cutting::Cutting;
 use crate::lists::List;
 use crate::tasks::{Task, capacities_of};
@@ -25,10 +27,15 @@ fn keeps(cutting: Cutting, cell: usize) -> bool {
         }
 }
 
+// No larger piece is tried; no delivery here asks for so much.
+const LARGEST_PIECE: u64 = 1 << 62;
+
 // The largest piece that a cell can hold: all that its delivery asks for.
-fn most_at(task: Task, cell: usize) -> u64 {
+fn most_at(task: Task, cell: usize) -> u64
+    ensures { result ≤ 4611686018427387904 }
+{
     let (delivery, _) = place_of(task, cell);
-    task.wanted(delivery)
+    task.wanted(delivery).min(LARGEST_PIECE)
 }
 
 // Whether some cutting that serves begins with the pieces before a place. From there on the cells are 0, and are again where none does.

@@ -9,7 +9,7 @@
 ghost use Rattle.std.specs.Prelude.{◌≤◌, ◌<◌, length, IfSome};
 
 use planning::{Answer, Refusal};
-use report::{Scanner, answer_page, print, read_full, shown_page, words_page};
+use report::{Scanner, answer_page, print, read_full, shown_page, words_page, written};
 use std::array;
 use std::io::{self, Write};
 
@@ -120,9 +120,11 @@ impl Lent {
 
     // Prints the print, of n bytes, and what the call left in what was lent.
     fn show<W: Write>(&self, to: &mut W, n: usize) -> io::Result<()> {
-        let text = self.output.get(..n).unwrap_or(&[]);
         print(to, words_page(b", print #", &[n as u64]))?;
-        print(to, shown_page(b" ", text, b"\ntable"))?;
+        print(
+            to,
+            shown_page(b" ", written(&self.output, Ok(n)), b"\ntable"),
+        )?;
         show_changed(to, &self.table, 0, |i| number_pattern(TABLE, i))?;
         to.write_all(b", spare")?;
         show_changed(to, &self.spare, 0, |i| number_pattern(SPARE, i))?;

@@ -14,7 +14,7 @@ mod words;
 
 pub use answers::{answer_page, mode_name};
 pub use numbers::others;
-pub use page::Page;
+pub use page::{PAGE_BYTES, Page, written};
 pub use pages::{list_page, plan_page, shown_page, words_page};
 pub use scanner::Scanner;
 pub use streams::{print, read_full};

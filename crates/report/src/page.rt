@@ -14,15 +14,22 @@ pub struct Page {
     pub next: Result<usize, WriteError>,
 }
 
+// What of some bytes is to be written: all that was put there, or nothing where a text was left out.
+#[tactic(auto, unfolding(crate::specs::Page::page_text))]
+pub fn written(page: &[u8], to: Result<usize, WriteError>) -> &[u8]
+    ensures { result.now ≡ page_text to page.now }
+{
+    match to {
+        Ok(end) if end <= page.len() => &page[..end],
+        _ => &page[..0],
+    }
+}
+
 impl Page {
-    // What is to be written: all that was put there, or nothing where a text was left out.
-    #[tactic(auto, unfolding(crate::specs::Page::page_text))]
+    // What of the page is to be written.
     pub fn written(&self) -> &[u8]
         ensures { result.now ≡ page_text self.now.next self.now.bytes }
     {
-        match self.next {
-            Ok(end) if end <= self.bytes.len() => &self.bytes[..end],
-            _ => &self.bytes[..0],
-        }
+        written(&self.bytes, self.next)
     }
 }
