@@ -144,6 +144,13 @@ pub struct PlanLists<'a> {
     pub quiet: &'a [u64],
 }
 
+// A number of 32 bits where 64 are asked for.
+pub fn wide(x: u32) -> u64
+    ensures { result ≡ x }
+{
+    u64::from(x)
+}
+
 // Numbers copied to the front of a list, as many as it has room for. By a loop, of which the compiler makes a `memcpy`: `copy_from_slice` is a
 // `memmove`, and the C archive would need that name from outside too.
 pub fn copy(numbers: &[u64], to: &mut [u64])
